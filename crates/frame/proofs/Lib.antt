@@ -1,0 +1,3 @@
+pub mod Decides
+pub mod Fronts
+mod Walks

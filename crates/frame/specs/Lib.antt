@@ -1,0 +1,4 @@
+pub mod Refusals
+pub mod Owned
+pub mod Frames
+pub mod Parts
