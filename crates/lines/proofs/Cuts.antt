@@ -1,0 +1,112 @@
+-- Cutting and joining are inverse to each other. Assumes nothing.
+use mathlib.Core.Path.{_≡_, refl, sym, ap, subst, _∙_}
+use mathlib.Core.Bool.{Bool, true, false, cond}
+use mathlib.Core.List.{List, [], _∷_, _++_, append-nil}
+use mathlib.Core.Logic.{⊎-elim}
+use Prim.Native.Nat.{ℕ, zero, suc, _+_, _-_, _≤_, _<_}
+use native.Mathlib.Omega.{arith}
+use native.Mathlib.Nat.{le-of-suc-le-suc, not-suc-le-zero}
+use lib.Dec.{leb, eqb}
+use lib.ListN.{length, getD, take, drop, length-append}
+use Rattle.std.proofs.shelf.Tests.{eq-eqb, ne-eqb, le-leb, lt-leb, cases-eq, cases-lt, cond-true, cond-false, cond-both}
+use Rattle.std.proofs.shelf.Lists.{drop-more, take-append-drop, drop-drop, length-take-le, length-drop, getD-take, getD-drop, drop-all}
+use Rattle.lines.specs.Fields.{onFirst, split, parted, join, Field, placed, fieldsFrom, fieldsOf}
+
+-- no byte of p is the separator
+abbrev pub Whole : ℕ → List ℕ → Type 0
+Whole s p = (k : ℕ) → k < length p → getD p k 0 ≡ s → ⊥
+
+whole-tail : (s b : ℕ) (p : List ℕ) → Whole s (b ∷ p) → Whole s p
+whole-tail s b p w k h = w (suc k) (omega arith)
+
+pub split-last : (s : ℕ) (p : List ℕ) → Whole s p → split s p ≡ p ∷ []
+split-last s [] w = refl
+split-last s (b ∷ p) w = cond-false (eqb b s) _ _ (ne-eqb b s (w 0 (omega arith))) ∙ ap (onFirst b) (split-last s p (whole-tail s b p w))
+
+pub split-more : (s : ℕ) (p q : List ℕ) → Whole s p → split s (p ++ s ∷ q) ≡ p ∷ split s q
+split-more s [] q w = cond-true (eqb s s) _ _ (eq-eqb s s refl)
+split-more s (b ∷ p) q w = cond-false (eqb b s) _ _ (ne-eqb b s (w 0 (omega arith))) ∙ ap (onFirst b) (split-more s p q (whole-tail s b p w))
+
+-- every part is whole
+abbrev pub AllWhole : ℕ → List (List ℕ) → Type 0
+AllWhole s [] = Unit {0}
+AllWhole s (p ∷ ps) = Whole s p × AllWhole s ps
+
+pub split-join : (s : ℕ) (p : List ℕ) (ps : List (List ℕ)) → AllWhole s (p ∷ ps) → split s (join s (p ∷ ps)) ≡ p ∷ ps
+split-join s p [] w = rw append-nil (split-last s p (w .0))
+split-join s p (q ∷ ps) w = split-more s p (q ++ parted s ps) (w .0) ∙ ap (λ l. p ∷ l) (split-join s q ps (w .1))
+
+join-first : (s b : ℕ) (ps : List (List ℕ)) → join s (onFirst b ps) ≡ b ∷ join s ps
+join-first s b [] = refl
+join-first s b (p ∷ ps) = refl
+
+join-next : (s : ℕ) (ps : List (List ℕ)) → 0 < length ps → join s ([] ∷ ps) ≡ s ∷ join s ps
+join-next s [] h = absurd (omega arith)
+join-next s (p ∷ ps) h = refl
+
+first-some : (b : ℕ) (ps : List (List ℕ)) → 0 < length (onFirst b ps)
+first-some b [] = omega arith
+first-some b (p ∷ ps) = omega arith
+
+first-length : (b : ℕ) (ps : List (List ℕ)) → 0 < length ps → length (onFirst b ps) ≡ length ps
+first-length b [] h = absurd (omega arith)
+first-length b (p ∷ ps) h = refl
+
+pub split-some : (s : ℕ) (bs : List ℕ) → 0 < length (split s bs)
+split-some s [] = omega arith
+split-some s (b ∷ bs) = cond-both (eqb b s) _ _ (λ ps. 0 < length ps) (λ e. omega arith) (λ e. first-some b (split s bs))
+
+pub join-split : (s : ℕ) (bs : List ℕ) → join s (split s bs) ≡ bs
+join-split s [] = refl
+join-split s (b ∷ bs) =
+    ⊎-elim
+    (λ e. ap (join s) (cond-true (eqb b s) _ _ (eq-eqb b s e)) ∙ join-next s (split s bs) (split-some s bs) ∙ ap (λ c. c ∷ join s (split s bs)) (sym e) ∙ ap (λ l. b ∷ l) (join-split s bs))
+    (λ e. ap (join s) (cond-false (eqb b s) _ _ (ne-eqb b s e)) ∙ join-first s b (split s bs) ∙ ap (λ l. b ∷ l) (join-split s bs))
+    (cases-eq b s)
+
+pub length-placed : (at : ℕ) (ps : List (List ℕ)) → length (placed at ps) ≡ length ps
+length-placed at [] = refl
+length-placed at (p ∷ ps) = ap suc (length-placed (suc (at + length p)) ps)
+
+-- counting the parts byte by byte
+module _ (s : ℕ) (bs : List ℕ) (i : ℕ) (h : i < length bs) where
+  pub count-separator : getD bs i 0 ≡ s → length (split s (drop i bs)) ≡ length (split s (drop (i + 1) bs)) + 1
+  count-separator e = ap (λ l. length (split s l)) (drop-more bs i 0 h) ∙ ap length (cond-true (eqb (getD bs i 0) s) _ _ (eq-eqb _ s e)) ∙ omega arith
+
+  pub count-other : (getD bs i 0 ≡ s → ⊥) → length (split s (drop i bs)) ≡ length (split s (drop (i + 1) bs))
+  count-other e = ap (λ l. length (split s l)) (drop-more bs i 0 h) ∙ ap length (cond-false (eqb (getD bs i 0) s) _ _ (ne-eqb _ s e)) ∙ first-length _ _ (split-some s (drop (i + 1) bs))
+
+-- the field that begins at `at` and ends at `end`, and those after it
+module _ (line : List ℕ) (at end : ℕ) (after : at ≤ end) (within : end ≤ length line) where
+  piece-whole : ((k : ℕ) → at ≤ k → k < end → getD line k 0 ≡ 44 → ⊥) → Whole 44 (take (end - at) (drop at line))
+  piece-whole inside k h e =
+      let long = length-take-le (end - at) (drop at line) (omega (arith, length-drop at line)) in
+      let i : k < end - at = omega arith in
+      inside (at + k) (omega arith) (omega arith) (sym (getD-take (end - at) (drop at line) k 0 i ∙ getD-drop at line k 0) ∙ e)
+
+  rest-is : take (end - at) (drop at line) ++ drop end line ≡ drop at line
+  rest-is =
+      let same : at + (end - at) ≡ end = omega arith in
+      ap (λ l. take (end - at) (drop at line) ++ l) (sym (drop-drop (end - at) at line ∙ ap (λ n. drop n line) same)) ∙ take-append-drop (end - at) (drop at line)
+
+  next-at : suc (at + length (take (end - at) (drop at line))) ≡ end + 1
+  next-at = omega (arith, length-take-le (end - at) (drop at line) (omega (arith, length-drop at line)))
+
+  pub next-field : ((k : ℕ) → at ≤ k → k < end → getD line k 0 ≡ 44 → ⊥) → (end < length line → getD line end 0 ≡ 44) → fieldsFrom line at ≡ record { at = at; text = take (end - at) (drop at line) } ∷ fieldsFrom line (end + 1)
+  next-field inside stops =
+      let p = take (end - at) (drop at line) in
+      let whole = piece-whole inside in
+      let here = cond-true (leb at (length line)) (placed at (split 44 (drop at line))) [] (le-leb at (length line) (omega arith)) in
+      ⊎-elim
+      (λ more.
+          let tail : drop end line ≡ 44 ∷ drop (end + 1) line = drop-more line end 0 more ∙ ap (λ b. b ∷ drop (end + 1) line) (stops more) in
+          let cut = ap (split 44) (sym rest-is ∙ ap (λ l. p ++ l) tail) ∙ split-more 44 p (drop (end + 1) line) whole in
+          here ∙ ap (placed at) cut ∙ ap (λ n. record { at = at; text = p } ∷ placed n (split 44 (drop (end + 1) line))) next-at ∙ ap (λ l. record { at = at; text = p } ∷ l) (sym (cond-true (leb (end + 1) (length line)) _ [] (le-leb (end + 1) (length line) (omega arith)))))
+      (λ last.
+          let tail : drop end line ≡ [] = drop-all end line last in
+          let cut = ap (split 44) (sym rest-is ∙ ap (λ l. p ++ l) tail ∙ append-nil p) ∙ split-last 44 p whole in
+          here ∙ ap (placed at) cut ∙ ap (λ l. record { at = at; text = p } ∷ l) (sym (cond-false (leb (end + 1) (length line)) _ [] (lt-leb (end + 1) (length line) (omega arith)))))
+      (cases-lt end (length line))
+
+pub no-field : (line : List ℕ) (at : ℕ) → length line < at → fieldsFrom line at ≡ []
+no-field line at h = cond-false (leb at (length line)) _ [] (lt-leb at (length line) h)

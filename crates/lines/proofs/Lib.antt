@@ -1,0 +1,3 @@
+mod Appends
+pub mod Cuts
+pub mod Digits

@@ -1,0 +1,4 @@
+pub mod Appending
+pub mod Fields
+pub mod Numbers
+pub mod Tokens

@@ -1,0 +1,5 @@
+//! Lines: bytes cut into fields, and the line that carries a frame.
+mod appending;
+pub mod fields;
+pub mod numbers;
+pub mod tokens;
