@@ -13,9 +13,11 @@ use Rattle.std.specs.declared.option.Option.{Option}
 use Rattle.std.specs.declared.option.Option.the-variants.{Some, None}
 use Rattle.std.proofs.shelf.Tests.{ltb-true, leb-true, eqb-true, eqb-false, lt-ltb, le-leb, lt-leb, le-ltb, eq-eqb, ne-eqb, cases-eq, cond-true, cond-false}
 use Rattle.std.proofs.shelf.Lists.{drop-more}
-use Rattle.std.proofs.shelf.Numerals.{Numerals, numerals-by-fold}
+use Rattle.std.proofs.shelf.Numerals.{Numerals, numerals-by-fold, not-in-digits}
 use Rattle.std.proofs.shelf.Decimals.{digits-decimal, value-decimal, decimal-value, decimal-some, first-decimal, decimal-digit}
 use mathlib.Core.Logic.{⊎-elim}
+use Rattle.lines.proofs.Cuts.{Whole}
+use Rattle.lines.specs.Tokens.{letterOf}
 use Rattle.lines.specs.Numbers.{readOn, numberOf, Number}
 
 some-none : {X : Type 0} (x : X) → _≡_ {A = Option X} None (Some x) → ⊥
@@ -75,6 +77,12 @@ number-reads (c ∷ d ∷ cs) n e =
     (λ z. plain-decimal (c ∷ d ∷ cs) n (omega arith) (λ y. absurd (z y)) (sym (cond-false _ _ _ (ne-eqb c 48 z)) ∙ e))
     (cases-eq c 48)
 
+-- a number is no letter
+pub number-no-letter : (bs : List ℕ) (n : ℕ) → numberOf bs ≡ Some n → None ≡ letterOf bs
+number-no-letter [] n e = refl
+number-no-letter (c ∷ []) n e = sym (cond-false _ _ _ (lt-leb 65 c (omega (arith, read-plain 0 (c ∷ []) n (omega arith) e .0 .0))))
+number-no-letter (c ∷ d ∷ cs) n e = refl
+
 -- no decimal begins with 0 but that of 0, which has one byte
 lead-decimal : (n : ℕ) → n < 65536 → getD (decimal n) 0 0 ≡ 48 → length (decimal n) ≡ 1
 lead-decimal n h z =
@@ -116,6 +124,10 @@ module _ (n : ℕ) (bs : List ℕ) (i : ℕ) (h : i < length bs) where
 
     pub digit-more : n * 10 + (getD bs i 0 - 48) ≤ 65535 → readOn n (drop i bs) ≡ readOn (n * 10 + (getD bs i 0 - 48)) (drop (i + 1) bs)
     digit-more m = rw (drop-more bs i 0 h, le-leb 48 (getD bs i 0) l, le-leb (getD bs i 0) 57 g, lt-ltb (n * 10 + (getD bs i 0 - 48)) 65536 (omega arith))
+
+-- no byte of a decimal is a comma
+pub decimal-whole : (n : ℕ) → n < 65536 → Whole 44 (decimal n)
+decimal-whole n h = not-in-digits own (decimal n) 44 (digits-decimal own n (omega arith)) (λ i. omega (arith, i .0))
 
 pub numbered : (bs : List ℕ) → Number bs (numberOf bs)
 numbered bs = record { reads = number-reads bs; written = number-written bs }

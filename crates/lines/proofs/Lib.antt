@@ -1,3 +1,6 @@
 mod Appends
 pub mod Cuts
 pub mod Digits
+pub mod Exact
+mod Exits
+mod Turns

@@ -1,4 +1,6 @@
 pub mod Appending
 pub mod Fields
+pub mod Frames
 pub mod Numbers
+pub mod Reading
 pub mod Tokens

@@ -23,7 +23,7 @@ letterOf (b ∷ c ∷ cs) = None
 -- the token is the field's: it borrows its bytes, has its offset, and names its kind
 abbrev pub TokenOf : Field → Token → Type 0
 TokenOf f (Letter text at letter) = (text .now ≡ f .text) × (at ≡ f .at) × (letterOf (f .text) ≡ Some letter)
-TokenOf f (Number text at value) = (text .now ≡ f .text) × (at ≡ f .at) × (numberOf (f .text) ≡ Some value)
+TokenOf f (Number text at value) = (text .now ≡ f .text) × (at ≡ f .at) × (letterOf (f .text) ≡ None) × (numberOf (f .text) ≡ Some value)
 TokenOf f (Word text at) = (text .now ≡ f .text) × (at ≡ f .at) × (letterOf (f .text) ≡ None) × (numberOf (f .text) ≡ None)
 
 -- the fields that are still to come

@@ -2,4 +2,5 @@
 mod appending;
 pub mod fields;
 pub mod numbers;
+pub mod reading;
 pub mod tokens;
