@@ -1,5 +1,5 @@
 -- The check of terms decides whether they make a frame. Assumes nothing.
-use mathlib.Core.Path.{_≡_, refl, sym, subst}
+use mathlib.Core.Path.{_≡_, refl, sym, _∙_}
 use mathlib.Core.Bool.{Bool, true, false, cond}
 use mathlib.Core.List.{List, [], _∷_}
 use Prim.Native.Nat.{ℕ, zero, suc, _≤_, _<_}
@@ -17,7 +17,7 @@ use Rattle.frame.specs.declared.refusals.Refusal.{Refusal}
 use Rattle.frame.specs.declared.refusals.Refusal.the-variants.{TermCount, MinuteOrder, ZeroWeight}
 use Rattle.frame.specs.Frames.{minuteAt, weightAt, firstMinute, firstWeight, weighed, ordered, check, FrameTerms, Decided}
 
-some-none : {X : Type 0} (x : X) → _≡_ {A = Option X} (Some x) None → ⊥
+pub some-none : {X : Type 0} (x : X) → _≡_ {A = Option X} (Some x) None → ⊥
 some-none x e = let z : _≡_ {A = ℕ} 0 1 = cc in omega arith
 
 err-ok : (e : Refusal) → _≡_ {A = Result (Unit {0}) Refusal} (Err e) (Ok tt) → ⊥
@@ -77,8 +77,8 @@ parts true true (Some k) w e = absurd (err-ok _ e)
 parts true false m w e = absurd (err-ok _ e)
 parts false b m w e = absurd (err-ok _ e)
 
-pub check-sound : (ts : List Term) → check ts ≡ Ok tt → FrameTerms ts
-check-sound ts e =
+pub check-sound : (ts : List Term) → ((k : ℕ) → k < length ts → weightAt ts k < 65536) → check ts ≡ Ok tt → FrameTerms ts
+check-sound ts words e =
     let p = parts (leb 1 (length ts)) (leb (length ts) 16) (firstMinute 0 0 ts) (firstWeight 0 ts) e in
     record {
       some = leb-true 1 (length ts) (p .0);
@@ -86,17 +86,18 @@ check-sound ts e =
       below = λ k h. minutes-below 0 0 ts (p .2) k h .1;
       rising = minutes-rise 0 0 ts (p .2);
       weighted = weights-some 0 ts (p .3);
+      words = words;
     }
 
 pub check-complete : (ts : List Term) → FrameTerms ts → check ts ≡ Ok tt
 check-complete ts f =
     rw (le-leb 1 (length ts) (f .some), le-leb (length ts) 16 (f .few), minutes-pass 0 0 ts (f .below) (f .rising) (λ h. omega arith), weights-pass 0 ts (f .weighted))
 
-pub decided : (ts : List Term) → Decided ts (check ts)
-decided ts = record { sound = check-sound ts; complete = check-complete ts }
+pub passed : (ts : List Term) → Ok tt ≡ check ts → ((k : ℕ) → k < length ts → weightAt ts k < 65536) → Decided ts (Ok tt)
+passed ts e words = record { sound = λ _. check-sound ts words (sym e); complete = λ f. refl }
 
-pub decides : (ts : List Term) (r : Result (Unit {0}) Refusal) → r ≡ check ts → Decided ts r
-decides ts r e = subst (Decided ts) (sym e) (decided ts)
+pub refused : (ts : List Term) (e : Refusal) → Err e ≡ check ts → Decided ts (Err e)
+refused ts e is = record { sound = λ h. absurd (err-ok e h); complete = λ f. is ∙ check-complete ts f }
 
 -- the check, by its exits
 pub refuses-none : (ts : List Term) → length ts ≡ 0 → Err TermCount ≡ check ts

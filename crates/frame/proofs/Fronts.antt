@@ -12,7 +12,7 @@ use Rattle.frame.specs.Frames.{noTerm, minuteAt, weightAt, FrameTerms}
 
 -- what a frame's type says, as one fact
 pub frame-terms : (f : Frame) → FrameTerms (termsOf f)
-frame-terms f = record { some = f .some; few = f .few; below = f .below; rising = f .rising; weighted = f .weighted }
+frame-terms f = record { some = f .some; few = f .few; below = f .below; rising = f .rising; weighted = f .weighted; words = f .words }
 
 module _ (n : ℕ) (ts : List Term) where
   minute-front : (k : ℕ) → k < n → minuteAt (take n ts) k ≡ minuteAt ts k
@@ -21,8 +21,8 @@ module _ (n : ℕ) (ts : List Term) where
   weight-front : (k : ℕ) → k < n → weightAt (take n ts) k ≡ weightAt ts k
   weight-front k h = ap (λ t. t .weight) (getD-take n ts k noTerm h)
 
-  pub front-is-frame : n ≤ length ts → 1 ≤ n → n ≤ 16 → ((k : ℕ) → k < n → minuteAt ts k < 64) → ((j k : ℕ) → j < k → k < n → minuteAt ts j < minuteAt ts k) → ((k : ℕ) → k < n → weightAt ts k ≡ 0 → ⊥) → FrameTerms (take n ts)
-  front-is-frame fits some few below rising weighted =
+  pub front-is-frame : n ≤ length ts → 1 ≤ n → n ≤ 16 → ((k : ℕ) → k < n → minuteAt ts k < 64) → ((j k : ℕ) → j < k → k < n → minuteAt ts j < minuteAt ts k) → ((k : ℕ) → k < n → weightAt ts k ≡ 0 → ⊥) → ((k : ℕ) → k < n → weightAt ts k < 65536) → FrameTerms (take n ts)
+  front-is-frame fits some few below rising weighted words =
       let long = length-take-le n ts fits in
       record {
         some = omega arith;
@@ -30,6 +30,7 @@ module _ (n : ℕ) (ts : List Term) where
         below = λ k h. let i : k < n = omega arith in omega (arith, minute-front k i, below k i);
         rising = λ j k l h. let i : k < n = omega arith in let o : j < n = omega arith in omega (arith, minute-front k i, minute-front j o, rising j k l i);
         weighted = λ k h z. let i : k < n = omega arith in weighted k i (sym (weight-front k i) ∙ z);
+        words = λ k h. let i : k < n = omega arith in omega (arith, weight-front k i, words k i);
       }
 
   module _ (f : FrameTerms (take n ts)) (long : length (take n ts) ≡ n) where
@@ -41,6 +42,9 @@ module _ (n : ℕ) (ts : List Term) where
 
     pub weighted-front : (k : ℕ) → k < n → weightAt ts k ≡ 0 → ⊥
     weighted-front k h z = f .weighted k (omega arith) (weight-front k h ∙ z)
+
+    pub words-front : (k : ℕ) → k < n → weightAt ts k < 65536
+    words-front k h = omega (arith, weight-front k h, f .words k (omega arith))
 
 -- terms copied one by one
 pub copied-more : (own ts : List Term) (i : ℕ) → i < length own → i < length ts → take i own ≡ take i ts → take (i + 1) (set own i (getD ts i noTerm)) ≡ take (i + 1) ts

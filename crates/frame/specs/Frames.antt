@@ -52,6 +52,7 @@ pub record FrameTerms (ts : List Term) : Type 0 where
   pub below : (k : ℕ) → k < length ts → minuteAt ts k < 64
   pub rising : (j k : ℕ) → j < k → k < length ts → minuteAt ts j < minuteAt ts k
   pub weighted : (k : ℕ) → k < length ts → weightAt ts k ≡ 0 → ⊥
+  pub words : (k : ℕ) → k < length ts → weightAt ts k < 65536
 
 -- a check's answer is "no refusal" just where the terms make a frame
 pub record Decided (ts : List Term) (r : Result (Unit {0}) Refusal) : Type 0 where

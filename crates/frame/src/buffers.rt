@@ -13,10 +13,12 @@ pub struct FrameBuf {
     sum: u16,
     count: usize,
     terms: [Term; 16],
+    ghost word: { sum < 65536 },
     ghost room: { length terms ≡ 16 },
     ghost some: { 1 ≤ count },
     ghost few: { count ≤ 16 },
     ghost below: { (k : ℕ) → k < count → minuteAt terms k < 64 },
     ghost rising: { (j k : ℕ) → j < k → k < count → minuteAt terms j < minuteAt terms k },
     ghost weighted: { (k : ℕ) → k < count → weightAt terms k ≡ 0 → ⊥ },
+    ghost words: { (k : ℕ) → k < count → weightAt terms k < 65536 },
 }

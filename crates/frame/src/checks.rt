@@ -1,6 +1,9 @@
 //! The check of terms that comes before a frame is made.
 ghost use mathlib.Core.Path.{_≡_};
-ghost use Rattle.frame.specs.Frames.{firstMinute, firstWeight, check, Decided};
+ghost use Prim.Native.Nat.{ℕ, _<_};
+ghost use lib.ListN.{length};
+ghost use Rattle.std.specs.declared.option.Option.the-variants.{None};
+ghost use Rattle.frame.specs.Frames.{weightAt, firstMinute, firstWeight, check, Decided};
 use super::refusals::Refusal;
 use super::terms::Term;
 
@@ -26,7 +29,8 @@ fn first_minute(terms: &[Term]) -> Option<usize>
 
 // The first term whose weight is 0.
 fn first_weight(terms: &[Term]) -> Option<usize>
-    ensures { λ r. ⌜ r ≡ firstWeight 0 (now (terms .entry)) ⌝ }
+    ensures value { λ r. ⌜ r ≡ firstWeight 0 (now (terms .entry)) ⌝ }
+    ensures words { λ r. ⌜ (r ≡ None → (k : ℕ) → k < length (now (terms .entry)) → weightAt (now (terms .entry)) k < 65536) ⌝ }
 {
     for (i, term) in terms.iter().enumerate() {
         if term.weight == 0 {

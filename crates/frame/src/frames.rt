@@ -12,9 +12,11 @@ pub mod calls;
 pub struct Frame<'a> {
     sum: u16,
     terms: &'a [Term],
+    ghost word: { sum < 65536 },
     ghost some: { 1 ≤ length (terms .now) },
     ghost few: { length (terms .now) ≤ 16 },
     ghost below: { (k : ℕ) → k < length (terms .now) → minuteAt (terms .now) k < 64 },
     ghost rising: { (j k : ℕ) → j < k → k < length (terms .now) → minuteAt (terms .now) j < minuteAt (terms .now) k },
     ghost weighted: { (k : ℕ) → k < length (terms .now) → weightAt (terms .now) k ≡ 0 → ⊥ },
+    ghost words: { (k : ℕ) → k < length (terms .now) → weightAt (terms .now) k < 65536 },
 }

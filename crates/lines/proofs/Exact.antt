@@ -20,6 +20,10 @@ use Rattle.frame.specs.declared.terms.Term.{Term}
 use Rattle.frame.specs.declared.refusals.Refusal.{Refusal}
 use Rattle.frame.specs.Frames.{minuteAt, weightAt, check, FrameTerms}
 use Rattle.frame.proofs.Decides.{check-sound, check-complete}
+use Rattle.frame.specs.declared.frames.Frame.{Frame}
+use Rattle.frame.specs.Parts.{sumOf, termsOf}
+use Rattle.frame.proofs.Fronts.{frame-terms}
+use Rattle.lines.specs.Writing.{OneLine}
 use Rattle.lines.specs.Fields.{split, parted, join, Field, placed, fieldsOf}
 use Rattle.lines.specs.Frames.{flat, lineOf, IsFrame}
 use Rattle.lines.specs.Numbers.{numberOf}
@@ -92,7 +96,7 @@ letter-whole zero h e = omega arith
 letter-whole (suc k) h e = absurd (omega arith)
 
 frame-words : (s : ℕ) (ts : List Term) → IsFrame s ts → Words (s ∷ flat ts)
-frame-words s ts f = (f .sum-word, terms-words ts (f .terms .below) (f .weight-words))
+frame-words s ts f = (f .word, terms-words ts (f .terms .below) (f .terms .words))
 
 -- a term takes at most nine bytes
 terms-short : (ts : List Term) → ((k : ℕ) → k < length ts → minuteAt ts k < 64) → ((k : ℕ) → k < length ts → weightAt ts k < 65536) → length (parted 44 (map decimal (flat ts))) ≤ 9 * length ts
@@ -105,8 +109,8 @@ terms-short (t ∷ ts) below words =
 
 pub line-short : (s : ℕ) (ts : List Term) → IsFrame s ts → length (lineOf s ts) ≤ 256
 line-short s ts f =
-    let sum = length-decimal-le 5 s (omega arith) (omega (arith, f .sum-word)) (omega (arith, f .sum-word)) in
-    let rest = terms-short ts (f .terms .below) (f .weight-words) in
+    let sum = length-decimal-le 5 s (omega arith) (omega (arith, f .word)) (omega (arith, f .word)) in
+    let rest = terms-short ts (f .terms .below) (f .terms .words) in
     simp length-append (omega (arith, f .terms .few))
 
 -- what a reading that gives a frame has passed
@@ -159,9 +163,8 @@ parts-only s ts line (p ∷ ps) cut h =
     let words = subst Words back (is .1) in
     (
       record {
-        terms = check-sound ts (subst (λ l. check l ≡ Ok tt) (frame .2) (frame .3));
-        sum-word = words .0;
-        weight-words = words-weights ts (words .1);
+        word = words .0;
+        terms = check-sound ts (words-weights ts (words .1)) (subst (λ l. check l ≡ Ok tt) (frame .2) (frame .3));
       },
       sym (join-split 44 line) ∙ ap (join 44) cut ∙ ap (λ q. join 44 (q ∷ ps)) (letter-is p (known .0)) ∙ ap (λ l. join 44 ((70 ∷ []) ∷ l)) (is .0 ∙ ap (map decimal) back),
     )
@@ -192,3 +195,10 @@ reads-frame line r is =
       only = λ s ts h. line-only line s ts (sym is ∙ h);
       each = λ s ts f e. is ∙ ap read e ∙ line-each s ts f;
     }
+
+pub one-line : (s : ℕ) (ts : List Term) → IsFrame s ts → OneLine s ts
+one-line s ts f = record { short = line-short s ts f; back = line-each s ts f; only = λ line h. line-only line s ts h .1 }
+
+-- the sum and the terms of a frame
+pub is-frame : (f : Frame) → IsFrame (sumOf f) (termsOf f)
+is-frame f = record { word = f .word; terms = frame-terms f }

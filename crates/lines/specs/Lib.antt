@@ -4,3 +4,4 @@ pub mod Frames
 pub mod Numbers
 pub mod Reading
 pub mod Tokens
+pub mod Writing

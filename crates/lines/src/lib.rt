@@ -4,3 +4,4 @@ pub mod fields;
 pub mod numbers;
 pub mod reading;
 pub mod tokens;
+pub mod writing;

@@ -2,7 +2,7 @@ use mathlib.Core.Path.{sym, ap, subst, _∙_}
 use native.Mathlib.Omega.{arith}
 use lib.ListN.{length}
 use Rattle.frame.specs.Frames.{FrameTerms}
-use Rattle.frame.proofs.Fronts.{frame-terms, below-front, rising-front, weighted-front, copied-all}
+use Rattle.frame.proofs.Fronts.{frame-terms, below-front, rising-front, weighted-front, words-front, copied-all}
 use Rattle.frame.proofs.buffers.FrameBuf.new.Needs as need
 
 pub ghost-result : need.ghost-result
@@ -13,7 +13,7 @@ ghost-result c =
     let same = copied-all f n own _ (c .count .ensures) (c .terms .ensures) (c .padded-terms .ensures .front) in
     let held = subst FrameTerms (sym same) (frame-terms f) in
     let long = ap length same ∙ sym (c .count .ensures) in
-    (c .padded-terms .ensures .room, (omega (arith, f .some), (omega (arith, f .few), (below-front n own held long, (rising-front n own held long, (weighted-front n own held long, tt))))))
+    (omega (arith, f .word, c .sum .ensures), (c .padded-terms .ensures .room, (omega (arith, f .some), (omega (arith, f .few), (below-front n own held long, (rising-front n own held long, (weighted-front n own held long, (words-front n own held long, tt))))))))
 
 pub returns : need.returns
 returns c =
