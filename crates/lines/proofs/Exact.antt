@@ -23,6 +23,7 @@ use Rattle.frame.proofs.Decides.{check-sound, check-complete}
 use Rattle.frame.specs.declared.frames.Frame.{Frame}
 use Rattle.frame.specs.Parts.{sumOf, termsOf}
 use Rattle.frame.proofs.Fronts.{frame-terms}
+use Rattle.lines.specs.Answers.{answerOf, Echoes}
 use Rattle.lines.specs.Writing.{OneLine}
 use Rattle.lines.specs.Fields.{split, parted, join, Field, placed, fieldsOf}
 use Rattle.lines.specs.Frames.{flat, lineOf, IsFrame}
@@ -202,3 +203,6 @@ one-line s ts f = record { short = line-short s ts f; back = line-each s ts f; o
 -- the sum and the terms of a frame
 pub is-frame : (f : Frame) → IsFrame (sumOf f) (termsOf f)
 is-frame f = record { word = f .word; terms = frame-terms f }
+
+pub echoes : (line : List ℕ) → Echoes line
+echoes line s ts f e = ap (λ r. answerOf r ++ 10 ∷ []) (ap read e ∙ line-each s ts f) ∙ ap (λ l. l ++ 10 ∷ []) (sym e)

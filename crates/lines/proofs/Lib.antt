@@ -3,4 +3,5 @@ pub mod Cuts
 pub mod Digits
 pub mod Exact
 mod Exits
+mod RefusedLines
 mod Turns

@@ -1,3 +1,4 @@
+pub mod Answers
 pub mod Appending
 pub mod Fields
 pub mod Frames

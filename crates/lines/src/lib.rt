@@ -1,4 +1,5 @@
 //! Lines: bytes cut into fields, and the line that carries a frame.
+pub mod answers;
 mod appending;
 pub mod fields;
 pub mod numbers;
