@@ -10,11 +10,7 @@ use lib.Dec.{leb, eqb}
 use lib.ListN.{length, getD, take, drop, length-append}
 use Rattle.std.proofs.shelf.Tests.{eq-eqb, ne-eqb, le-leb, lt-leb, cases-eq, cases-lt, cond-true, cond-false, cond-both}
 use Rattle.std.proofs.shelf.Lists.{drop-more, take-append-drop, drop-drop, length-take-le, length-drop, getD-take, getD-drop, drop-all}
-use Rattle.lines.specs.Fields.{onFirst, split, parted, join, Field, placed, fieldsFrom, fieldsOf}
-
--- no byte of p is the separator
-abbrev pub Whole : ℕ → List ℕ → Type 0
-Whole s p = (k : ℕ) → k < length p → getD p k 0 ≡ s → ⊥
+use Rattle.lines.specs.Fields.{Whole, onFirst, split, parted, join, PartEnd, placed, fieldsFrom}
 
 whole-tail : (s b : ℕ) (p : List ℕ) → Whole s (b ∷ p) → Whole s p
 whole-tail s b p w k h = w (suc k) (omega arith)
@@ -76,37 +72,39 @@ module _ (s : ℕ) (bs : List ℕ) (i : ℕ) (h : i < length bs) where
   pub count-other : (getD bs i 0 ≡ s → ⊥) → length (split s (drop i bs)) ≡ length (split s (drop (i + 1) bs))
   count-other e = ap (λ l. length (split s l)) (drop-more bs i 0 h) ∙ ap length (cond-false (eqb (getD bs i 0) s) _ _ (ne-eqb _ s e)) ∙ first-length _ _ (split-some s (drop (i + 1) bs))
 
--- the field that begins at `at` and ends at `end`, and those after it
-module _ (line : List ℕ) (at end : ℕ) (after : at ≤ end) (within : end ≤ length line) where
-  piece-whole : ((k : ℕ) → at ≤ k → k < end → getD line k 0 ≡ 44 → ⊥) → Whole 44 (take (end - at) (drop at line))
-  piece-whole inside k h e =
-      let long = length-take-le (end - at) (drop at line) (omega (arith, length-drop at line)) in
+-- the part that begins at `at` and ends at `end`
+module _ (bytes : List ℕ) (at s end : ℕ) (part : PartEnd bytes at s end) (begins : at ≤ length bytes) where
+  pub part-length : length (take (end - at) (drop at bytes)) ≡ end - at
+  part-length = length-take-le (end - at) (drop at bytes) (omega (arith, length-drop at bytes, part .within begins))
+
+  pub part-whole : Whole s (take (end - at) (drop at bytes))
+  part-whole k h e =
+      let long = part-length in
       let i : k < end - at = omega arith in
-      inside (at + k) (omega arith) (omega arith) (sym (getD-take (end - at) (drop at line) k 0 i ∙ getD-drop at line k 0) ∙ e)
+      part .inside (at + k) (omega arith) (omega arith) (sym (getD-take (end - at) (drop at bytes) k 0 i ∙ getD-drop at bytes k 0) ∙ e)
 
-  rest-is : take (end - at) (drop at line) ++ drop end line ≡ drop at line
-  rest-is =
-      let same : at + (end - at) ≡ end = omega arith in
-      ap (λ l. take (end - at) (drop at line) ++ l) (sym (drop-drop (end - at) at line ∙ ap (λ n. drop n line) same)) ∙ take-append-drop (end - at) (drop at line)
+  pub part-rest : take (end - at) (drop at bytes) ++ drop end bytes ≡ drop at bytes
+  part-rest =
+      let same : at + (end - at) ≡ end = omega (arith, part .after) in
+      ap (λ l. take (end - at) (drop at bytes) ++ l) (sym (drop-drop (end - at) at bytes ∙ ap (λ n. drop n bytes) same)) ∙ take-append-drop (end - at) (drop at bytes)
 
-  next-at : suc (at + length (take (end - at) (drop at line))) ≡ end + 1
-  next-at = omega (arith, length-take-le (end - at) (drop at line) (omega (arith, length-drop at line)))
+  pub separator-next : end < length bytes → drop end bytes ≡ s ∷ drop (end + 1) bytes
+  separator-next more = drop-more bytes end 0 more ∙ ap (λ b. b ∷ drop (end + 1) bytes) (part .stops more)
 
-  pub next-field : ((k : ℕ) → at ≤ k → k < end → getD line k 0 ≡ 44 → ⊥) → (end < length line → getD line end 0 ≡ 44) → fieldsFrom line at ≡ record { at = at; text = take (end - at) (drop at line) } ∷ fieldsFrom line (end + 1)
-  next-field inside stops =
+-- a field, and those after it
+module _ (line : List ℕ) (at end : ℕ) (part : PartEnd line at 44 end) (begins : at ≤ length line) where
+  pub next-field : fieldsFrom line at ≡ record { at = at; text = take (end - at) (drop at line) } ∷ fieldsFrom line (end + 1)
+  next-field =
       let p = take (end - at) (drop at line) in
-      let whole = piece-whole inside in
-      let here = cond-true (leb at (length line)) (placed at (split 44 (drop at line))) [] (le-leb at (length line) (omega arith)) in
+      let whole = part-whole line at 44 end part begins in
+      let rest = part-rest line at 44 end part begins in
+      let past : suc (at + length p) ≡ end + 1 = omega (arith, part .after, part-length line at 44 end part begins) in
+      let here = cond-true (leb at (length line)) (placed at (split 44 (drop at line))) [] (le-leb at (length line) begins) in
       ⊎-elim
       (λ more.
-          let tail : drop end line ≡ 44 ∷ drop (end + 1) line = drop-more line end 0 more ∙ ap (λ b. b ∷ drop (end + 1) line) (stops more) in
-          let cut = ap (split 44) (sym rest-is ∙ ap (λ l. p ++ l) tail) ∙ split-more 44 p (drop (end + 1) line) whole in
-          here ∙ ap (placed at) cut ∙ ap (λ n. record { at = at; text = p } ∷ placed n (split 44 (drop (end + 1) line))) next-at ∙ ap (λ l. record { at = at; text = p } ∷ l) (sym (cond-true (leb (end + 1) (length line)) _ [] (le-leb (end + 1) (length line) (omega arith)))))
+          let cut = ap (split 44) (sym rest ∙ ap (λ l. p ++ l) (separator-next line at 44 end part begins more)) ∙ split-more 44 p (drop (end + 1) line) whole in
+          here ∙ ap (placed at) cut ∙ ap (λ n. record { at = at; text = p } ∷ placed n (split 44 (drop (end + 1) line))) past ∙ ap (λ l. record { at = at; text = p } ∷ l) (sym (cond-true (leb (end + 1) (length line)) _ [] (le-leb (end + 1) (length line) (omega arith)))))
       (λ last.
-          let tail : drop end line ≡ [] = drop-all end line last in
-          let cut = ap (split 44) (sym rest-is ∙ ap (λ l. p ++ l) tail ∙ append-nil p) ∙ split-last 44 p whole in
+          let cut = ap (split 44) (sym rest ∙ ap (λ l. p ++ l) (drop-all end line last) ∙ append-nil p) ∙ split-last 44 p whole in
           here ∙ ap (placed at) cut ∙ ap (λ l. record { at = at; text = p } ∷ l) (sym (cond-false (leb (end + 1) (length line)) _ [] (lt-leb (end + 1) (length line) (omega arith)))))
       (cases-lt end (length line))
-
-pub no-field : (line : List ℕ) (at : ℕ) → length line < at → fieldsFrom line at ≡ []
-no-field line at h = cond-false (leb at (length line)) _ [] (lt-leb at (length line) h)

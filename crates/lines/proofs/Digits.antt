@@ -16,7 +16,7 @@ use Rattle.std.proofs.shelf.Lists.{drop-more}
 use Rattle.std.proofs.shelf.Numerals.{Numerals, numerals-by-fold, not-in-digits}
 use Rattle.std.proofs.shelf.Decimals.{digits-decimal, value-decimal, decimal-value, decimal-some, first-decimal, decimal-digit}
 use mathlib.Core.Logic.{⊎-elim}
-use Rattle.lines.proofs.Cuts.{Whole}
+use Rattle.lines.specs.Fields.{Whole}
 use Rattle.lines.specs.Tokens.{letterOf}
 use Rattle.lines.specs.Numbers.{readOn, numberOf, Number}
 

@@ -1,9 +1,10 @@
 -- Bytes cut at a separator, and put together again. Assumes nothing.
+use mathlib.Core.Path.{_≡_}
 use mathlib.Core.Bool.{cond}
 use mathlib.Core.List.{List, [], _∷_, _++_}
-use Prim.Native.Nat.{ℕ, suc, _+_}
+use Prim.Native.Nat.{ℕ, suc, _+_, _≤_, _<_}
 use lib.Dec.{leb, eqb}
-use lib.ListN.{length, drop}
+use lib.ListN.{length, getD, drop}
 
 -- a byte in front of the first part
 abbrev pub onFirst : ℕ → List (List ℕ) → List (List ℕ)
@@ -24,6 +25,17 @@ parted s (p ∷ ps) = s ∷ (p ++ parted s ps)
 abbrev pub join : ℕ → List (List ℕ) → List ℕ
 join s [] = []
 join s (p ∷ ps) = p ++ parted s ps
+
+-- no byte of a part is the separator
+abbrev pub Whole : ℕ → List ℕ → Type 0
+Whole s p = (k : ℕ) → k < length p → getD p k 0 ≡ s → ⊥
+
+-- the part that begins at `from` ends at `end`: no separator stands between them, and one at `end` unless the bytes end there
+pub record PartEnd (bytes : List ℕ) (from separator end : ℕ) : Type 0 where
+  pub after : from ≤ end
+  pub within : from ≤ length bytes → end ≤ length bytes
+  pub inside : (k : ℕ) → from ≤ k → k < end → getD bytes k 0 ≡ separator → ⊥
+  pub stops : end < length bytes → getD bytes end 0 ≡ separator
 
 -- a field: its bytes, and the offset of its first byte in the line
 pub record Field : Type 0 where

@@ -1,9 +1,9 @@
 //! The fields of a line, one after the other.
 ghost use mathlib.Core.Path.{_≡_};
-ghost use Prim.Native.Nat.{ℕ, _≤_, _<_};
-ghost use lib.ListN.{length, getD};
-ghost use Rattle.lines.specs.Fields.{fieldsOf, split};
+ghost use lib.ListN.{length};
+ghost use Rattle.lines.specs.Fields.{fieldsOf};
 ghost use Rattle.lines.specs.Tokens.{toCome, Next};
+use super::parts::part_end;
 use super::tokens::Token;
 
 // The fields of a line that are still to come: the next begins at `at`, and none does past the line's end.
@@ -11,21 +11,6 @@ use super::tokens::Token;
 pub struct Fields<'a> {
     line: &'a [u8],
     at: usize,
-}
-
-// Where the field that begins at `from` ends: at the next comma, or at the line's end.
-fn field_end(line: &[u8], from: usize) -> usize
-    requires { ⌜ from ≤ length (now line) ⌝ }
-    ensures after { λ r. ⌜ from ≤ r ⌝ }
-    ensures within { λ r. ⌜ r ≤ length (now (line .entry)) ⌝ }
-    ensures inside { λ r. ⌜ ((k : ℕ) → from ≤ k → k < r → getD (now (line .entry)) k 0 ≡ 44 → ⊥) ⌝ }
-    ensures stops { λ r. ⌜ (r < length (now (line .entry)) → getD (now (line .entry)) r 0 ≡ 44) ⌝ }
-{
-    let mut end = from;
-    while end < line.len() && line[end] != b',' {
-        end += 1;
-    }
-    end
 }
 
 // How many fields a line has.
@@ -56,7 +41,7 @@ impl<'a> Fields<'a> {
             return None;
         }
         let from = self.at;
-        let end = field_end(self.line, from);
+        let end = part_end(self.line, from, b',');
         self.at = end + 1;
         Some(Token::new(&self.line[from..end], from))
     }

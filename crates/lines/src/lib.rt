@@ -3,6 +3,7 @@ pub mod answers;
 mod appending;
 pub mod fields;
 pub mod numbers;
+pub mod parts;
 pub mod reading;
 pub mod tokens;
 pub mod writing;

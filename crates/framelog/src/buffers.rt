@@ -1,0 +1,15 @@
+//! The line under way.
+ghost use mathlib.Core.Path.{_≡_};
+ghost use Prim.Native.Nat.{_≤_};
+ghost use lib.ListN.{length};
+
+pub mod calls;
+
+// The bytes of the line under way. Of a long line the first 257 are kept: they show that it is too long.
+#[derive(Clone, Copy)]
+pub struct LineBuffer {
+    bytes: [u8; 257],
+    len: usize,
+    ghost room: { length bytes ≡ 257 },
+    ghost fits: { len ≤ 257 },
+}
