@@ -4,4 +4,5 @@ pub mod Digits
 pub mod Exact
 mod Exits
 mod RefusedLines
+mod Spells
 mod Turns
