@@ -50,15 +50,15 @@ split-append s [] ys = glue-empty (split s ys) (split-some s ys)
 split-append s (b ∷ xs) ys =
     ⊎-elim
     (λ e.
-        cond-true (eqb b s) _ _ (eq-eqb b s e)
-        ∙ ap (λ l. [] ∷ l) (split-append s xs ys)
-        ∙ glue-next (split s xs) (split s ys) (split-some s xs)
-        ∙ ap (λ l. glue l (split s ys)) (sym (cond-true (eqb b s) _ _ (eq-eqb b s e))))
+    cond-true (eqb b s) _ _ (eq-eqb b s e)
+    ∙ ap (λ l. [] ∷ l) (split-append s xs ys)
+    ∙ glue-next (split s xs) (split s ys) (split-some s xs)
+    ∙ ap (λ l. glue l (split s ys)) (sym (cond-true (eqb b s) _ _ (eq-eqb b s e))))
     (λ e.
-        cond-false (eqb b s) _ _ (ne-eqb b s e)
-        ∙ ap (onFirst b) (split-append s xs ys)
-        ∙ glue-first b (split s xs) (split s ys) (split-some s xs) (split-some s ys)
-        ∙ ap (λ l. glue l (split s ys)) (sym (cond-false (eqb b s) _ _ (ne-eqb b s e))))
+    cond-false (eqb b s) _ _ (ne-eqb b s e)
+    ∙ ap (onFirst b) (split-append s xs ys)
+    ∙ glue-first b (split s xs) (split s ys) (split-some s xs) (split-some s ys)
+    ∙ ap (λ l. glue l (split s ys)) (sym (cond-false (eqb b s) _ _ (ne-eqb b s e))))
     (cases-eq b s)
 
 -- a part without an end
@@ -102,27 +102,29 @@ keeps-none a o =
     record { goes = λ input written holds is. subst (λ all. Holds a all × (written ++ vec-items o ≡ answered (split 10 all))) (sym (append-nil input)) (holds, is) }
 
 -- a part of a line, with no end in it
-pub keeps-part : (a b : LineBuffer) (o p : Vec ℕ Global) (part : List ℕ) → Whole 10 part → held b ≡ take 257 (held a ++ part) → vec-items p ≡ vec-items o → Keeps a b o p part
-keeps-part a b o p part whole is same = record { goes = λ input written holds out.
-    let lines = split 10 input in
-    let some = split-some 10 input in
-    let cut : split 10 (input ++ part) ≡ glue lines (part ∷ []) = split-append 10 input part ∙ ap (glue lines) (split-last 10 part whole) in
-    (
-      is ∙ ap (λ l. take 257 (l ++ part)) holds ∙ front-front 257 (unfinished lines) part ∙ ap (take 257) (sym (part-unfinished lines part some) ∙ ap unfinished (sym cut)),
-      ap (λ l. written ++ l) same ∙ out ∙ sym (part-answered lines part some) ∙ ap answered (sym cut),
-    ) }
+pub keeps-part : (a b : LineBuffer) (o : Vec ℕ Global) (part : List ℕ) → Whole 10 part → held b ≡ take 257 (held a ++ part) → Keeps a b o o part
+keeps-part a b o part whole is = record {
+  goes = λ input written holds out.
+      let lines = split 10 input in
+      let some = split-some 10 input in
+      let cut : split 10 (input ++ part) ≡ glue lines (part ∷ []) = split-append 10 input part ∙ ap (glue lines) (split-last 10 part whole) in (
+        is ∙ ap (λ l. take 257 (l ++ part)) holds ∙ front-front 257 (unfinished lines) part ∙ ap (take 257) (sym (part-unfinished lines part some) ∙ ap unfinished (sym cut)),
+        out ∙ sym (part-answered lines part some) ∙ ap answered (sym cut),
+      );
+}
 
 -- the last part of a line, and its end
 pub keeps-line : (a b : LineBuffer) (o p : Vec ℕ Global) (part text : List ℕ) → Whole 10 part → held b ≡ [] → text ≡ take 257 (held a ++ part) → vec-items p ≡ vec-items o ++ answerTo text → Keeps a b o p (part ++ 10 ∷ [])
-keeps-line a b o p part text whole empty is put = record { goes = λ input written holds out.
-    let lines = split 10 input in
-    let some = split-some 10 input in
-    let cut : split 10 (input ++ (part ++ 10 ∷ [])) ≡ glue lines (part ∷ [] ∷ []) = split-append 10 input (part ++ 10 ∷ []) ∙ ap (glue lines) (split-more 10 part [] whole) in
-    let line : answerTo text ≡ answerTo (unfinished lines ++ part) = ap answerTo (is ∙ ap (λ l. take 257 (l ++ part)) holds ∙ front-front 257 (unfinished lines) part) ∙ front-answer (unfinished lines ++ part) in
-    (
-      empty ∙ ap (take 257) (sym (line-unfinished lines part some) ∙ ap unfinished (sym cut)),
-      ap (λ l. written ++ l) put ∙ sym (append-assoc written (vec-items o) (answerTo text)) ∙ (λ i. out i ++ line i) ∙ sym (line-answered lines part some) ∙ ap answered (sym cut),
-    ) }
+keeps-line a b o p part text whole empty is put = record {
+  goes = λ input written holds out.
+      let lines = split 10 input in
+      let some = split-some 10 input in
+      let cut : split 10 (input ++ (part ++ 10 ∷ [])) ≡ glue lines (part ∷ [] ∷ []) = split-append 10 input (part ++ 10 ∷ []) ∙ ap (glue lines) (split-more 10 part [] whole) in
+      let line : answerTo text ≡ answerTo (unfinished lines ++ part) = ap answerTo (is ∙ ap (λ l. take 257 (l ++ part)) holds ∙ front-front 257 (unfinished lines) part) ∙ front-answer (unfinished lines ++ part) in (
+        empty ∙ ap (take 257) (sym (line-unfinished lines part some) ∙ ap unfinished (sym cut)),
+        ap (λ l. written ++ l) put ∙ sym (append-assoc written (vec-items o) (answerTo text)) ∙ (λ i. out i ++ line i) ∙ sym (line-answered lines part some) ∙ ap answered (sym cut),
+      );
+}
 
 -- the end of the input
 last-none : (u : List ℕ) → length u ≡ 0 → answerLast u ≡ []
@@ -134,18 +136,22 @@ last-some [] h = absurd (omega arith)
 last-some (b ∷ u) h = refl
 
 pub ended-empty : (b : LineBuffer) (o : Vec ℕ Global) (text : List ℕ) → text ≡ held b → length text ≡ 0 → Ended b o o
-ended-empty b o text is none = record { goes = λ input written holds out.
-    let u = unfinished (split 10 input) in
-    let empty : length u ≡ 0 = omega (arith, ap length (is ∙ holds), length-take 257 u) in
-    out ∙ sym (append-nil (answered (split 10 input))) ∙ ap (λ l. answered (split 10 input) ++ l) (sym (last-none u empty)) }
+ended-empty b o text is none = record {
+  goes = λ input written holds out.
+      let u = unfinished (split 10 input) in
+      let empty : length u ≡ 0 = omega (arith, ap length (is ∙ holds), length-take 257 u) in
+      out ∙ sym (append-nil (answered (split 10 input))) ∙ ap (λ l. answered (split 10 input) ++ l) (sym (last-none u empty));
+}
 
 ended-last : (b : LineBuffer) (o p : Vec ℕ Global) (text : List ℕ) → text ≡ held b → (length text ≡ 0 → ⊥) → vec-items p ≡ vec-items o ++ answerTo text → Ended b o p
-ended-last b o p text is some put = record { goes = λ input written holds out.
-    let u = unfinished (split 10 input) in
-    let long : 0 < length u = omega (arith, some, ap length (is ∙ holds), length-take 257 u) in
-    let last : answerTo text ≡ answerLast u = ap answerTo (is ∙ holds) ∙ front-answer u ∙ sym (last-some u long) in
-    ap (λ l. written ++ l) put ∙ sym (append-assoc written (vec-items o) (answerTo text)) ∙ (λ i. out i ++ last i) }
+ended-last b o p text is some put = record {
+  goes = λ input written holds out.
+      let u = unfinished (split 10 input) in
+      let long : 0 < length u = omega (arith, some, ap length (is ∙ holds), length-take 257 u) in
+      let last : answerTo text ≡ answerLast u = ap answerTo (is ∙ holds) ∙ front-answer u ∙ sym (last-some u long) in
+      ap (λ l. written ++ l) put ∙ sym (append-assoc written (vec-items o) (answerTo text)) ∙ (λ i. out i ++ last i);
+}
 
-pub finishes : (b : LineBuffer) (o p : Vec ℕ Global) (text : List ℕ) (r : Result (Unit {0}) AllocError) → text ≡ held b → (length text ≡ 0 → ⊥) → Appends o p (answerTo text) r → Finishes b o p r
+pub finishes : (b : LineBuffer) (o p : Vec ℕ Global) (text : List ℕ) (r : Result (Unit {0}) AllocError) → text ≡ held b → (length text ≡ 0 → ⊥) → Appends o p (answerTo text) 257 r → Finishes b o p r
 finishes b o p text (Ok _) is some put = ended-last b o p text is some put
 finishes b o p text (Err e) is some put = put

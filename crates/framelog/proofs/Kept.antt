@@ -39,11 +39,11 @@ pub kept-front : (n len : ℕ) (xs part : List ℕ) → length xs ≡ len → le
 kept-front n len xs part long fits =
     ⊎-elim
     (λ few.
-        let e : min (length part) (n - len) ≡ length part = omega arith in
-        ap (λ k. xs ++ take k part) e ∙ ap (λ l. xs ++ l) (take-all (length part) part (omega arith) ∙ sym (take-all (n - length xs) part (omega arith))) ∙ sym (front-append n xs part (omega arith)))
+    let e : min (length part) (n - len) ≡ length part = omega arith in
+    ap (λ k. xs ++ take k part) e ∙ ap (λ l. xs ++ l) (take-all (length part) part (omega arith) ∙ sym (take-all (n - length xs) part (omega arith))) ∙ sym (front-append n xs part (omega arith)))
     (λ many.
-        let e : min (length part) (n - len) ≡ n - length xs = omega arith in
-        ap (λ k. xs ++ take k part) e ∙ sym (front-append n xs part (omega arith)))
+    let e : min (length part) (n - len) ≡ n - length xs = omega arith in
+    ap (λ k. xs ++ take k part) e ∙ sym (front-append n xs part (omega arith)))
     (cases-lt (length part) (n - len))
 
 pub extended : (bytes bytes′ part : List ℕ) (len count : ℕ) → length bytes ≡ 257 → len ≤ 257 → count ≡ min (length part) (257 - len) → take (len + length (take (count - 0) part)) bytes′ ≡ take len bytes ++ take (count - 0) part → take (len + count) bytes′ ≡ take 257 (take len bytes ++ part)
@@ -79,8 +79,8 @@ pub front-answer : (line : List ℕ) → answerTo (take 257 line) ≡ answerTo l
 front-answer line =
     ⊎-elim
     (λ long.
-        let cut : length (take 257 line) ≡ 257 = length-take-le 257 line (omega arith) in
-        let unknown : (l : List ℕ) → 256 < length l → read l ≡ Err UnknownLine = λ l h. cond-false (leb (length l) 256) _ _ (lt-leb (length l) 256 h) in
-        ap (λ r. answerOf r ++ 10 ∷ []) (unknown (take 257 line) (omega arith) ∙ sym (unknown line long)))
+    let cut : length (take 257 line) ≡ 257 = length-take-le 257 line (omega arith) in
+    let unknown : (l : List ℕ) → 256 < length l → read l ≡ Err UnknownLine = λ l h. cond-false (leb (length l) 256) _ _ (lt-leb (length l) 256 h) in
+    ap (λ r. answerOf r ++ 10 ∷ []) (unknown (take 257 line) (omega arith) ∙ sym (unknown line long)))
     (λ short. ap answerTo (take-all 257 line (omega arith)))
     (cases-lt 256 (length line))

@@ -10,6 +10,7 @@ use Rattle.std.specs.declared.alloc.Global.{Global}
 use Rattle.std.specs.declared.result.Result.{Result}
 use Rattle.std.specs.declared.vec.Vec.{Vec}
 use Rattle.lines.specs.Answers.{answerTo}
+use Rattle.lines.specs.Appending.{Full}
 use Rattle.lines.specs.Fields.{split}
 use Rattle.framelog.specs.declared.buffers.LineBuffer.{LineBuffer}
 use Rattle.framelog.specs.Held.{held}
@@ -44,18 +45,24 @@ Holds b input = held b ≡ take 257 (unfinished (split 10 input))
 pub record Keeps (before after : LineBuffer) (out out′ : Vec ℕ Global) (bytes : List ℕ) : Type 0 where
   pub goes : (input written : List ℕ) → Holds before input → written ++ vec-items out ≡ answered (split 10 input) → Holds after (input ++ bytes) × (written ++ vec-items out′ ≡ answered (split 10 (input ++ bytes)))
 
--- all of a chunk was taken, or for want of memory some of it
+-- all of a chunk was taken; or its first bytes, as far as some output `full` that had no room for one more answer, for want of memory
 abbrev pub Feeds : LineBuffer → LineBuffer → Vec ℕ Global → Vec ℕ Global → List ℕ → Result (Unit {0}) AllocError → Type 0
-Feeds before after out out′ chunk r = Cases r (λ _. Keeps before after out out′ chunk) (λ _. (n : ℕ) × Keeps before after out out′ (take n chunk))
+Feeds before after out out′ chunk r =
+    Cases r
+    (λ _. Keeps before after out out′ chunk)
+    (λ _. (n : ℕ) × (full : Vec ℕ Global) × Keeps before after out full (take n chunk) × (vec-items out′ ≡ vec-items full) × Full full 257)
 
--- a line's last part was taken, with the byte that ends it, or for want of memory without it
+-- a line's last part was taken, with the byte that ends it; or without it, for want of memory where there was no room for an answer
 abbrev pub Ends : LineBuffer → LineBuffer → Vec ℕ Global → Vec ℕ Global → List ℕ → Result (Unit {0}) AllocError → Type 0
-Ends before after out out′ part r = Cases r (λ _. Keeps before after out out′ (part ++ 10 ∷ [])) (λ _. Keeps before after out out′ part)
+Ends before after out out′ part r =
+    Cases r
+    (λ _. Keeps before after out out′ (part ++ 10 ∷ []))
+    (λ _. Keeps before after out out part × (vec-items out′ ≡ vec-items out) × Full out 257)
 
 -- the input is at its end: what was written before, and what is appended now, are the answers to all of it
 pub record Ended (b : LineBuffer) (out out′ : Vec ℕ Global) : Type 0 where
   pub goes : (input written : List ℕ) → Holds b input → written ++ vec-items out ≡ answered (split 10 input) → written ++ vec-items out′ ≡ answers input
 
--- so it is, or for want of memory nothing is appended
+-- so it is; or nothing is appended, for want of memory where there was no room for an answer
 abbrev pub Finishes : LineBuffer → Vec ℕ Global → Vec ℕ Global → Result (Unit {0}) AllocError → Type 0
-Finishes b out out′ r = Cases r (λ _. Ended b out out′) (λ _. vec-items out′ ≡ vec-items out)
+Finishes b out out′ r = Cases r (λ _. Ended b out out′) (λ _. (vec-items out′ ≡ vec-items out) × Full out 257)

@@ -19,7 +19,9 @@ impl LogCheck {
     pub fn new() -> LogCheck
         ensures { λ r. ⌜ Holds (r .line) [] ⌝ }
     {
-        LogCheck { line: LineBuffer::new() }
+        LogCheck {
+            line: LineBuffer::new(),
+        }
     }
 
     // Takes the last part of a line and its end, and appends the line's answer.

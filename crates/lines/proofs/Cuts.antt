@@ -102,9 +102,9 @@ module _ (line : List ℕ) (at end : ℕ) (part : PartEnd line at 44 end) (begin
       let here = cond-true (leb at (length line)) (placed at (split 44 (drop at line))) [] (le-leb at (length line) begins) in
       ⊎-elim
       (λ more.
-          let cut = ap (split 44) (sym rest ∙ ap (λ l. p ++ l) (separator-next line at 44 end part begins more)) ∙ split-more 44 p (drop (end + 1) line) whole in
-          here ∙ ap (placed at) cut ∙ ap (λ n. record { at = at; text = p } ∷ placed n (split 44 (drop (end + 1) line))) past ∙ ap (λ l. record { at = at; text = p } ∷ l) (sym (cond-true (leb (end + 1) (length line)) _ [] (le-leb (end + 1) (length line) (omega arith)))))
+      let cut = ap (split 44) (sym rest ∙ ap (λ l. p ++ l) (separator-next line at 44 end part begins more)) ∙ split-more 44 p (drop (end + 1) line) whole in
+      here ∙ ap (placed at) cut ∙ ap (λ n. record { at = at; text = p } ∷ placed n (split 44 (drop (end + 1) line))) past ∙ ap (λ l. record { at = at; text = p } ∷ l) (sym (cond-true (leb (end + 1) (length line)) _ [] (le-leb (end + 1) (length line) (omega arith)))))
       (λ last.
-          let cut = ap (split 44) (sym rest ∙ ap (λ l. p ++ l) (drop-all end line last) ∙ append-nil p) ∙ split-last 44 p whole in
-          here ∙ ap (placed at) cut ∙ ap (λ l. record { at = at; text = p } ∷ l) (sym (cond-false (leb (end + 1) (length line)) _ [] (lt-leb (end + 1) (length line) (omega arith)))))
+      let cut = ap (split 44) (sym rest ∙ ap (λ l. p ++ l) (drop-all end line last) ∙ append-nil p) ∙ split-last 44 p whole in
+      here ∙ ap (placed at) cut ∙ ap (λ l. record { at = at; text = p } ∷ l) (sym (cond-false (leb (end + 1) (length line)) _ [] (lt-leb (end + 1) (length line) (omega arith)))))
       (cases-lt end (length line))

@@ -61,8 +61,7 @@ numbers-read [] at ns h = let e : ns ≡ [] = cc in (ap (map decimal) (sym e), s
 numbers-read (p ∷ ps) at ns h =
     let g = one-number (numberOf p) _ _ ns h in
     let is = number-reads p (g .0) (g .2) in
-    let q = numbers-read ps (suc (at + length p)) (g .1) (g .3) in
-    (
+    let q = numbers-read ps (suc (at + length p)) (g .1) (g .3) in (
       (λ i. is .1 i ∷ q .0 i) ∙ ap (map decimal) (sym (g .4)),
       subst Words (sym (g .4)) (is .0, q .1),
     )
@@ -161,8 +160,7 @@ parts-only s ts line (p ∷ ps) cut h =
     let long : length ps ≡ length (s ∷ ms) = ap length (is .0) ∙ length-map ns decimal ∙ ap length (frame .1) in
     let even : length ms % 2 ≡ 0 = omega (arith, long, length-placed at ps, eqb-true (length (placed at ps) % 2) 1 (odd .0)) in
     let back : ns ≡ s ∷ flat ts = frame .1 ∙ ap (λ l. s ∷ l) (sym (flat-pairs ms even) ∙ ap flat (frame .2)) in
-    let words = subst Words back (is .1) in
-    (
+    let words = subst Words back (is .1) in (
       record {
         word = words .0;
         terms = check-sound ts (words-weights ts (words .1)) (subst (λ l. check l ≡ Ok tt) (frame .2) (frame .3));

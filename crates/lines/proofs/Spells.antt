@@ -42,11 +42,11 @@ module _ (n left at : ℕ) (digits : List ℕ) (h : n < 2 ^ 64) (s : Spelling n 
           room = length-set digits at (48 + left % 10) ∙ s .room;
           fits = omega (arith, s .fits);
           is =
-            s .is
-            ∙ ap (λ l. l ++ drop (at + 1) digits) last
-            ∙ append-assoc (decimal (left / 10)) ((48 + left % 10) ∷ []) (drop (at + 1) digits)
-            ∙ ap (λ l. decimal (left / 10) ++ l) (sym (written (48 + left % 10)))
-            ∙ ap (λ k. decimal (left / 10) ++ drop k (set digits at (48 + left % 10))) (sym same);
+              s .is
+              ∙ ap (λ l. l ++ drop (at + 1) digits) last
+              ∙ append-assoc (decimal (left / 10)) ((48 + left % 10) ∷ []) (drop (at + 1) digits)
+              ∙ ap (λ l. decimal (left / 10) ++ l) (sym (written (48 + left % 10)))
+              ∙ ap (λ k. decimal (left / 10) ++ drop k (set digits at (48 + left % 10))) (sym same);
         }
 
   pub spelling-all : left < 10 → drop at (set digits at (48 + left)) ≡ decimal n

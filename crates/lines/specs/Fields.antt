@@ -34,6 +34,7 @@ Whole s p = (k : ℕ) → k < length p → getD p k 0 ≡ s → ⊥
 pub record PartEnd (bytes : List ℕ) (from separator end : ℕ) : Type 0 where
   pub after : from ≤ end
   pub within : from ≤ length bytes → end ≤ length bytes
+  pub beyond : length bytes < from → end ≡ from
   pub inside : (k : ℕ) → from ≤ k → k < end → getD bytes k 0 ≡ separator → ⊥
   pub stops : end < length bytes → getD bytes end 0 ≡ separator
 

@@ -12,6 +12,7 @@ use Rattle.std.specs.declared.result.Result.{Result}
 use Rattle.std.specs.declared.result.Result.the-variants.{Ok}
 use Rattle.std.specs.declared.vec.Vec.{Vec}
 use Rattle.frame.specs.declared.terms.Term.{Term}
+use Rattle.lines.specs.Appending.{Full}
 use Rattle.lines.specs.Fields.{parted}
 use Rattle.lines.specs.Frames.{flat, lineOf}
 use Rattle.lines.specs.Reading.{content, read}
@@ -20,9 +21,9 @@ use Rattle.lines.specs.Reading.{content, read}
 abbrev pub termsText : List Term → List ℕ
 termsText ts = parted 44 (map decimal (flat ts))
 
--- all of the bytes are appended, or for want of memory nothing is
-abbrev pub Appends : Vec ℕ Global → Vec ℕ Global → List ℕ → Result (Unit {0}) AllocError → Type 0
-Appends before after bytes r = Cases r (λ _. vec-items after ≡ vec-items before ++ bytes) (λ _. vec-items after ≡ vec-items before)
+-- all of the bytes are appended; or nothing is, for want of memory where there was no room for n bytes
+abbrev pub Appends : Vec ℕ Global → Vec ℕ Global → List ℕ → ℕ → Result (Unit {0}) AllocError → Type 0
+Appends before after bytes n r = Cases r (λ _. vec-items after ≡ vec-items before ++ bytes) (λ _. (vec-items after ≡ vec-items before) × Full before n)
 
 -- a frame has one line: reading takes it, and no other, to that frame, and it is never over 256 bytes
 pub record OneLine (s : ℕ) (ts : List Term) : Type 0 where

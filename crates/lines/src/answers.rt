@@ -65,7 +65,7 @@ fn put_answer(out: &mut Vec<u8>, line: &[u8])
 
 // Appends the answer to a line; for want of memory it appends nothing.
 pub fn answer(out: &mut Vec<u8>, line: &[u8]) -> Result<(), AllocError>
-    ensures value { λ r. ⌜ Appends (now (out .entry)) (now (out .exit)) (answerTo (now (line .entry))) r ⌝ }
+    ensures value { λ r. ⌜ Appends (now (out .entry)) (now (out .exit)) (answerTo (now (line .entry))) 257 r ⌝ }
     ensures echo { λ r. ⌜ Echoes (now (line .entry)) ⌝ }
 {
     out.reserve(MOST_BYTES + 1)?;

@@ -45,7 +45,10 @@ fn read_terms(mut fields: Fields<'_>, count: usize) -> Result<[Term; 16], Refusa
     requires { ⌜ length (toCome fields) ≡ count + count ⌝ }
     ensures { λ r. ⌜ ReadsTerms (toCome (fields .entry)) count r ⌝ }
 {
-    let mut terms = [Term { minute: 0, weight: 0 }; 16];
+    let mut terms = [Term {
+        minute: 0,
+        weight: 0,
+    }; 16];
     for i in 0..count {
         let minute = read_number(&mut fields)?;
         let weight = read_number(&mut fields)?;

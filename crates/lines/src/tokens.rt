@@ -7,11 +7,22 @@ use super::numbers::number;
 #[derive(Clone, Copy)]
 pub enum Token<'a> {
     // one byte from A to Z
-    Letter { text: &'a [u8], at: usize, letter: char },
+    Letter {
+        text: &'a [u8],
+        at: usize,
+        letter: char,
+    },
     // a decimal number from 0 to 65535 without leading zeros
-    Number { text: &'a [u8], at: usize, value: u16 },
+    Number {
+        text: &'a [u8],
+        at: usize,
+        value: u16,
+    },
     // any other field, also an empty one
-    Word { text: &'a [u8], at: usize },
+    Word {
+        text: &'a [u8],
+        at: usize,
+    },
 }
 
 impl<'a> Token<'a> {
@@ -23,7 +34,11 @@ impl<'a> Token<'a> {
             return Token::Number { text, at, value };
         }
         if text.len() == 1 && text[0] >= b'A' && text[0] <= b'Z' {
-            return Token::Letter { text, at, letter: char::from(text[0]) };
+            return Token::Letter {
+                text,
+                at,
+                letter: char::from(text[0]),
+            };
         }
         Token::Word { text, at }
     }

@@ -45,7 +45,7 @@ pub(crate) fn put_frame(out: &mut Vec<u8>, frame: &Frame<'_>)
 
 // Appends the line of a frame; for want of memory it appends nothing.
 pub fn write_frame(out: &mut Vec<u8>, frame: &Frame<'_>) -> Result<(), AllocError>
-    ensures value { λ r. ⌜ Appends (now (out .entry)) (now (out .exit)) (lineOf (sumOf (now (frame .entry))) (termsOf (now (frame .entry)))) r ⌝ }
+    ensures value { λ r. ⌜ Appends (now (out .entry)) (now (out .exit)) (lineOf (sumOf (now (frame .entry))) (termsOf (now (frame .entry)))) 256 r ⌝ }
     ensures exact { λ r. ⌜ OneLine (sumOf (now (frame .entry))) (termsOf (now (frame .entry))) ⌝ }
 {
     out.reserve(MOST_BYTES)?;

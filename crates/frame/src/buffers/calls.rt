@@ -14,7 +14,10 @@ fn padded(terms: &[Term]) -> [Term; 16]
     ensures room { λ r. ⌜ length r ≡ 16 ⌝ }
     ensures front { λ r. ⌜ take (length (now (terms .entry))) r ≡ now (terms .entry) ⌝ }
 {
-    let mut own = [Term { minute: 0, weight: 0 }; 16];
+    let mut own = [Term {
+        minute: 0,
+        weight: 0,
+    }; 16];
     for i in 0..terms.len() {
         own[i] = terms[i];
     }
@@ -28,7 +31,11 @@ impl FrameBuf {
         ensures holds { λ r. ⌜ termsIn r ≡ termsOf (now (frame .entry)) ⌝ }
     {
         let terms = padded(frame.terms());
-        FrameBuf { sum: frame.sum(), count: frame.count(), terms }
+        FrameBuf {
+            sum: frame.sum(),
+            count: frame.count(),
+            terms,
+        }
     }
 
     // The frame, over the terms held here.

@@ -4,8 +4,8 @@ ghost use lib.ListN.{length};
 ghost use Rattle.std.specs.Finite.{nth};
 ghost use Rattle.frame.specs.Frames.{FrameTerms};
 ghost use Rattle.frame.specs.Parts.{sumOf, termsOf};
-use super::Frame;
 use super::super::terms::Term;
+use super::Frame;
 
 impl<'a> Frame<'a> {
     // The frame of terms that the check let pass. It cannot refuse.
@@ -23,12 +23,15 @@ impl<'a> Frame<'a> {
         self.sum
     }
 
+    // All terms, in order.
     pub fn terms(&self) -> &'a [Term]
         ensures { λ r. ⌜ now r ≡ termsOf (now (self .entry)) ⌝ }
     {
-        self.terms
+        let Frame { terms, .. } = *self;
+        terms
     }
 
+    // How many terms it has.
     pub fn count(&self) -> usize
         ensures { λ r. ⌜ r ≡ length (termsOf (now (self .entry))) ⌝ }
     {

@@ -23,7 +23,10 @@ impl LineBuffer {
     pub fn new() -> LineBuffer
         ensures { λ r. ⌜ held r ≡ [] ⌝ }
     {
-        LineBuffer { bytes: [0; 257], len: 0 }
+        LineBuffer {
+            bytes: [0; 257],
+            len: 0,
+        }
     }
 
     pub fn text(&self) -> &[u8]

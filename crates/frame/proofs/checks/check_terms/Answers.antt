@@ -10,12 +10,12 @@ pub returns-then-is-empty : need.returns-then-is-empty
 returns-then-is-empty c =
     let ts = c .args .terms .now in
     elim (c .then-is-empty .came) [
-      then-is-empty·by·then-is-empty w ↦
-        let e = refuses-none ts (eqb-true _ 0 (sym (c .is-empty .ensures) ∙ w .if-is-empty .taken)) in
-        record { value = e; exact = refused ts _ e }
+      | then-is-empty·by·then-is-empty w ↦
+          let e = refuses-none ts (eqb-true _ 0 (sym (c .is-empty .ensures) ∙ w .if-is-empty .taken)) in
+          record { value = e; exact = refused ts _ e }
       | then-is-empty·by·else-is-empty·then-terms-gt-MOST-TERMS w ↦
-        let e = refuses-many ts (eqb-false _ 0 (sym (c .is-empty .ensures) ∙ w .if-is-empty .left)) (w .if-terms-gt-MOST-TERMS .taken) in
-        record { value = e; exact = refused ts _ e }
+          let e = refuses-many ts (eqb-false _ 0 (sym (c .is-empty .ensures) ∙ w .if-is-empty .left)) (w .if-terms-gt-MOST-TERMS .taken) in
+          record { value = e; exact = refused ts _ e }
     ]
 
 pub returns-in-Some : need.returns-in-Some

@@ -9,10 +9,10 @@ use Rattle.frame.proofs.checks.first_minute.Needs.{then-term-ge-MINUTES·by·t
 pub returns-then-term-ge-MINUTES : need.returns-then-term-ge-MINUTES
 returns-then-term-ge-MINUTES c =
     elim (c .then-term-ge-MINUTES .came) [
-      then-term-ge-MINUTES·by·then-term-ge-MINUTES w ↦
-        sym (minute-over _ _ _ _ (c .loop-i-test .taken) (w .if-term-ge-MINUTES .taken)) ∙ c .loop-i .inv .0
+      | then-term-ge-MINUTES·by·then-term-ge-MINUTES w ↦
+          sym (minute-over _ _ _ _ (c .loop-i-test .taken) (w .if-term-ge-MINUTES .taken)) ∙ c .loop-i .inv .0
       | then-term-ge-MINUTES·by·else-term-ge-MINUTES·then-term-low w ↦
-        sym (minute-stays _ _ _ _ (c .loop-i-test .taken) (w .if-term-ge-MINUTES .left) (w .if-term-low .taken)) ∙ c .loop-i .inv .0
+          sym (minute-stays _ _ _ _ (c .loop-i-test .taken) (w .if-term-ge-MINUTES .left) (w .if-term-low .taken)) ∙ c .loop-i .inv .0
     ]
 
 pub loop-i-again : need.loop-i-again

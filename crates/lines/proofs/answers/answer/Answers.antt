@@ -11,7 +11,7 @@ use Rattle.lines.proofs.answers.answer.Needs as need
 pub returns-in-Break-reserve : need.returns-in-Break-reserve
 returns-in-Break-reserve c =
     let p = err-from-errBy (c .from-residual .result) (c .from-residual .ensures .1) in
-    record { value = rw (p .1) (c .reserve .ensures .items); echo = echoes (c .args .line .now) }
+    record { value = rw (p .1) (c .reserve .ensures .items, c .in-Break-reserve .ensures tt .cases); echo = echoes (c .args .line .now) }
 
 pub put-answer-requires : need.put-answer-requires
 put-answer-requires c κs = omega (arith, c .reserve .ensures .ok (ap isOk (c .in-Continue-reserve .was tt)))

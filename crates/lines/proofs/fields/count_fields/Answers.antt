@@ -10,12 +10,12 @@ use Rattle.lines.proofs.fields.count_fields.Needs.{then-byte-eq44, else-byte-e
 pub loop-byte-again : need.loop-byte-again
 loop-byte-again c =
     elim (c .if-byte-eq44 .came) [
-      then-byte-eq44 w ↦
-        let one = count-separator 44 (c .args .line .now) (c .loop-byte .byte-index) (c .loop-byte-test .taken) (w .if-byte-eq44 .taken) in
-        (omega (arith, w .count-is), omega (arith, w .count-is))
+      | then-byte-eq44 w ↦
+          let one = count-separator 44 (c .args .line .now) (c .loop-byte .byte-index) (c .loop-byte-test .taken) (w .if-byte-eq44 .taken) in
+          (omega (arith, w .count-is), omega (arith, w .count-is))
       | else-byte-eq44 w ↦
-        let none = count-other 44 (c .args .line .now) (c .loop-byte .byte-index) (c .loop-byte-test .taken) (w .if-byte-eq44 .left) in
-        (omega (arith, w .count-is), omega (arith, w .count-is))
+          let none = count-other 44 (c .args .line .now) (c .loop-byte .byte-index) (c .loop-byte-test .taken) (w .if-byte-eq44 .left) in
+          (omega (arith, w .count-is), omega (arith, w .count-is))
     ]
 
 pub returns : need.returns

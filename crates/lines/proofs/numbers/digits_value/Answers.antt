@@ -9,10 +9,10 @@ use Rattle.lines.proofs.numbers.digits_value.Needs.{then-digit-lt48·by·then-
 pub returns-then-digit-lt48 : need.returns-then-digit-lt48
 returns-then-digit-lt48 c =
     elim (c .then-digit-lt48 .came) [
-      then-digit-lt48·by·then-digit-lt48 w ↦
-        sym (digit-low _ _ _ (c .loop-digit-test .taken) (w .if-digit-lt48 .taken)) ∙ c .loop-digit .inv .0
+      | then-digit-lt48·by·then-digit-lt48 w ↦
+          sym (digit-low _ _ _ (c .loop-digit-test .taken) (w .if-digit-lt48 .taken)) ∙ c .loop-digit .inv .0
       | then-digit-lt48·by·else-digit-lt48·then-digit-gt57 w ↦
-        sym (digit-high _ _ _ (c .loop-digit-test .taken) (w .if-digit-lt48 .left) (w .if-digit-gt57 .taken)) ∙ c .loop-digit .inv .0
+          sym (digit-high _ _ _ (c .loop-digit-test .taken) (w .if-digit-lt48 .left) (w .if-digit-gt57 .taken)) ∙ c .loop-digit .inv .0
     ]
 
 pub returns-then-n-gt65535 : need.returns-then-n-gt65535

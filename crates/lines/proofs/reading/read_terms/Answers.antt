@@ -18,7 +18,7 @@ returns-in-Break-weight c =
     let p = err-from-errBy (c .from-residual-in-Break-weight .result) (c .from-residual-in-Break-weight .ensures .1) in
     rw (p .1, p .2)
     (stops-weight _ _ _ _ _ (c .loop-i .inv) (c .loop-i-test .taken) _ (sym (c .in-Continue-minute .ensures tt .value)) _
-      (sym (c .in-Break-weight .ensures tt .value ∙ ap firstNumber (c .read-number .ensures .rest))))
+    (sym (c .in-Break-weight .ensures tt .value ∙ ap firstNumber (c .read-number .ensures .rest))))
 
 pub loop-i-holds : need.loop-i-holds
 loop-i-holds c = sofar-none _ _ _ (c .pre) refl
@@ -29,10 +29,10 @@ loop-i-again c =
     let minute = sym (c .in-Continue-minute .ensures tt .value) in
     let weight = sym (c .in-Continue-weight .ensures tt .value ∙ ap firstNumber (c .read-number .ensures .rest)) in
     elim (c .if-i-lt-MOST-TERMS .came) [
-      then-i-lt-MOST-TERMS w ↦
-        rw (rest, w .terms-is) (sofar-kept _ _ _ _ _ (c .loop-i .inv) (c .loop-i-test .taken) _ minute _ weight (w .if-i-lt-MOST-TERMS .taken))
+      | then-i-lt-MOST-TERMS w ↦
+          rw (rest, w .terms-is) (sofar-kept _ _ _ _ _ (c .loop-i .inv) (c .loop-i-test .taken) _ minute _ weight (w .if-i-lt-MOST-TERMS .taken))
       | else-i-lt-MOST-TERMS w ↦
-        rw (rest, w .terms-is) (sofar-past _ _ _ _ _ (c .loop-i .inv) (c .loop-i-test .taken) _ minute _ weight (w .if-i-lt-MOST-TERMS .left))
+          rw (rest, w .terms-is) (sofar-past _ _ _ _ _ (c .loop-i .inv) (c .loop-i-test .taken) _ minute _ weight (w .if-i-lt-MOST-TERMS .left))
     ]
 
 pub returns : need.returns

@@ -13,7 +13,7 @@ pub returns-in-Break-reserve : need.returns-in-Break-reserve
 returns-in-Break-reserve c =
     let f = c .args .frame .now in
     let p = err-from-errBy (c .from-residual .result) (c .from-residual .ensures .1) in
-    record { value = rw (p .1) (c .reserve .ensures .items); exact = one-line _ _ (is-frame f) }
+    record { value = rw (p .1) (c .reserve .ensures .items, c .in-Break-reserve .ensures tt .cases); exact = one-line _ _ (is-frame f) }
 
 pub put-frame-requires : need.put-frame-requires
 put-frame-requires c κs =
