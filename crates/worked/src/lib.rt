@@ -1,0 +1,95 @@
+//! Worked examples, as tests of the crates below. It is a crate of its own, so that they are not proved twice.
+#[cfg(test)]
+mod tests {
+    use frame::checks::check_terms;
+    use frame::refusals::Layer;
+    use frame::refusals::LayerDebug;
+    use frame::refusals::LayerPartialEq;
+    use frame::refusals::Refusal;
+    use frame::refusals::RefusalDebug;
+    use frame::refusals::RefusalPartialEq;
+    use frame::terms::Term;
+    use framelog::logs::LogCheck;
+    use lines::answers::answer;
+    use lines::numbers::number;
+    use lines::reading::read_frame;
+    use lines::writing::write_frame;
+    use std::alloc::AllocError;
+    use std::alloc::Global;
+    use std::test::*;
+
+    fn term(minute: u16, weight: u16) -> Term {
+        Term { minute, weight }
+    }
+
+    #[test]
+    fn terms_are_checked_in_order() -> Result<(), Fail> {
+        check_eq(check_terms(&[]), Err(Refusal::TermCount))?;
+        check_eq(check_terms(&[term(0, 1); 17]), Err(Refusal::TermCount))?;
+        check_eq(check_terms(&[term(0, 1), term(63, 65535)]), Ok(()))?;
+        check_eq(check_terms(&[term(0, 0), term(64, 1)]), Err(Refusal::MinuteOrder(1)))?;
+        check_eq(check_terms(&[term(7, 1), term(7, 1)]), Err(Refusal::MinuteOrder(1)))?;
+        check_eq(check_terms(&[term(6, 1), term(7, 0)]), Err(Refusal::ZeroWeight(1)))
+    }
+
+    #[test]
+    fn refusals_have_numbers_and_places() -> Result<(), Fail> {
+        check_eq(Refusal::Disputed.number(), 1)?;
+        check_eq(Refusal::SizeOutOfRange.number(), 16)?;
+        check_eq(Refusal::SizeOutOfRange.layer(), Layer::Block)?;
+        check_eq(Refusal::BadField(28).layer(), Layer::Line)?;
+        check_eq(Refusal::BadField(28).place(), 28)?;
+        check_eq(Refusal::ZeroWeight(3).layer(), Layer::Frame)
+    }
+
+    #[test]
+    fn numbers_are_canonical() -> Result<(), Fail> {
+        check_eq(number(b"0"), Some(0))?;
+        check_eq(number(b"65535"), Some(65535))?;
+        check_eq(number(b"65536"), None)?;
+        check_eq(number(b"00"), None)?;
+        check_eq(number(b"-1"), None)?;
+        check_eq(number(b""), None)
+    }
+
+    #[test]
+    fn a_line_is_read_and_written(rt: LibcRuntime) -> Result<(), Fail> {
+        let Ok(read) = read_frame(b"F,12,0,1,1,2") else {
+            return Err(Fail::new("refused"));
+        };
+        let frame = read.frame();
+        check_eq(frame.sum(), 12)?;
+        check_eq(frame.count(), 2)?;
+        check_eq(frame.term(1).ok_or("no term")?.weight, 2)?;
+        check(frame.term(2).is_none())?;
+        let mut line = Vec::new(rt.alloc());
+        write_frame(&mut line, &frame)?;
+        check(line.as_slice() == b"F,12,0,1,1,2")
+    }
+
+    fn answered(heap: Global, line: &[u8]) -> Result<Vec<u8>, AllocError> {
+        let mut out = Vec::new(heap);
+        answer(&mut out, line)?;
+        Ok(out)
+    }
+
+    #[test]
+    fn lines_are_answered(rt: LibcRuntime) -> Result<(), Fail> {
+        let heap = rt.alloc();
+        check(answered(heap, b"F,5,0,1")?.as_slice() == b"F,5,0,1\n")?;
+        check(answered(heap, b"S")?.as_slice() == b"?,refused,line,13,0\n")?;
+        check(answered(heap, b"F,5,0")?.as_slice() == b"F,refused,line,14,0\n")?;
+        check(answered(heap, b"F,5,0,x")?.as_slice() == b"F,refused,line,15,6\n")?;
+        check(answered(heap, b"F,5")?.as_slice() == b"F,refused,frame,10,0\n")
+    }
+
+    #[test]
+    fn chunks_may_cut_a_line(rt: LibcRuntime) -> Result<(), Fail> {
+        let mut check_of_log = LogCheck::new();
+        let mut out = Vec::new(rt.alloc());
+        check_of_log.feed(&mut out, b"F,5,0")?;
+        check_of_log.feed(&mut out, b",1\n\nF,1,0,1")?;
+        check_of_log.finish(&mut out)?;
+        check(out.as_slice() == b"F,5,0,1\n?,refused,line,13,0\nF,1,0,1\n")
+    }
+}
