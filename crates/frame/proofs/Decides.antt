@@ -12,16 +12,11 @@ use Rattle.std.specs.declared.option.Option.{Option}
 use Rattle.std.specs.declared.option.Option.the-variants.{Some, None}
 use Rattle.std.specs.declared.result.Result.{Result}
 use Rattle.std.specs.declared.result.Result.the-variants.{Ok, Err}
+use Rattle.frame.proofs.Apart.{some-none, err-ok}
 use Rattle.frame.specs.declared.terms.Term.{Term}
 use Rattle.frame.specs.declared.refusals.Refusal.{Refusal}
 use Rattle.frame.specs.declared.refusals.Refusal.the-variants.{TermCount, MinuteOrder, ZeroWeight}
 use Rattle.frame.specs.Frames.{minuteAt, weightAt, firstMinute, firstWeight, weighed, ordered, check, FrameTerms, Decided}
-
-pub some-none : {X : Type 0} (x : X) → _≡_ {A = Option X} (Some x) None → ⊥
-some-none x e = let z : _≡_ {A = ℕ} 0 1 = cc in omega arith
-
-err-ok : (e : Refusal) → _≡_ {A = Result (Unit {0}) Refusal} (Err e) (Ok tt) → ⊥
-err-ok e h = let z : _≡_ {A = ℕ} 0 1 = cc in omega arith
 
 -- one term of the walk over the minutes
 passes : (a b : Bool) (x : Option ℕ) (at : ℕ) → cond a (cond b x (Some at)) (Some at) ≡ None → (a ≡ true) × (b ≡ true) × (x ≡ None)
@@ -72,10 +67,10 @@ weights-pass at (t ∷ ts) some =
 -- what an answer of "no refusal" says of each part of the check
 parts : (a b : Bool) (m w : Option ℕ) → cond a (cond b (ordered m w) (Err TermCount)) (Err TermCount) ≡ Ok tt → (a ≡ true) × (b ≡ true) × (m ≡ None) × (w ≡ None)
 parts true true None None e = (refl, refl, refl, refl)
-parts true true None (Some k) e = absurd (err-ok _ e)
-parts true true (Some k) w e = absurd (err-ok _ e)
-parts true false m w e = absurd (err-ok _ e)
-parts false b m w e = absurd (err-ok _ e)
+parts true true None (Some k) e = absurd (err-ok _ tt e)
+parts true true (Some k) w e = absurd (err-ok _ tt e)
+parts true false m w e = absurd (err-ok _ tt e)
+parts false b m w e = absurd (err-ok _ tt e)
 
 pub check-sound : (ts : List Term) → ((k : ℕ) → k < length ts → weightAt ts k < 65536) → check ts ≡ Ok tt → FrameTerms ts
 check-sound ts words e =
@@ -97,7 +92,7 @@ pub passed : (ts : List Term) → Ok tt ≡ check ts → ((k : ℕ) → k < leng
 passed ts e words = record { sound = λ _. check-sound ts words (sym e); complete = λ f. refl }
 
 pub refused : (ts : List Term) (e : Refusal) → Err e ≡ check ts → Decided ts (Err e)
-refused ts e is = record { sound = λ h. absurd (err-ok e h); complete = λ f. is ∙ check-complete ts f }
+refused ts e is = record { sound = λ h. absurd (err-ok e tt h); complete = λ f. is ∙ check-complete ts f }
 
 -- the check, by its exits
 pub refuses-none : (ts : List Term) → length ts ≡ 0 → Err TermCount ≡ check ts

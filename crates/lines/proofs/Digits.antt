@@ -17,11 +17,9 @@ use Rattle.std.proofs.shelf.Numerals.{Numerals, numerals-by-fold, not-in-digits
 use Rattle.std.proofs.shelf.Decimals.{digits-decimal, value-decimal, decimal-value, decimal-some, first-decimal, decimal-digit}
 use mathlib.Core.Logic.{⊎-elim}
 use Rattle.lines.specs.Fields.{Whole}
+use Rattle.frame.proofs.Apart.{none-some}
 use Rattle.lines.specs.Tokens.{letterOf}
 use Rattle.lines.specs.Numbers.{readOn, numberOf, Number}
-
-some-none : {X : Type 0} (x : X) → _≡_ {A = Option X} None (Some x) → ⊥
-some-none x e = let z : _≡_ {A = ℕ} 0 1 = cc in omega arith
 
 some-same : (m n : ℕ) → _≡_ {A = Option ℕ} (Some m) (Some n) → m ≡ n
 some-same m n e = cc
@@ -45,9 +43,9 @@ grows n (c ∷ cs) = omega (arith, grows (n * 10 + (c - 48)) cs)
 -- one byte of a reading
 step : (a b l : Bool) (x : Option ℕ) (m : ℕ) → cond a (cond b (cond l x None) None) None ≡ Some m → (a ≡ true) × (b ≡ true) × (l ≡ true) × (x ≡ Some m)
 step true true true x m e = (refl, refl, refl, e)
-step true true false x m e = absurd (some-none m e)
-step true false l x m e = absurd (some-none m e)
-step false b l x m e = absurd (some-none m e)
+step true true false x m e = absurd (none-some m e)
+step true false l x m e = absurd (none-some m e)
+step false b l x m e = absurd (none-some m e)
 
 read-plain : (n : ℕ) (cs : List ℕ) (m : ℕ) → n < 65536 → readOn n cs ≡ Some m → Plain cs × (writes n cs ≡ m) × (m < 65536)
 read-plain n [] m h e = (tt, some-same n m e, omega (arith, some-same n m e))
@@ -69,11 +67,11 @@ plain-decimal bs n some lead e =
     (p .2, sym (decimal-value own bs (p .0) some lead (omega (arith, p .1, p .2))) ∙ ap decimal (p .1))
 
 pub number-reads : (bs : List ℕ) (n : ℕ) → numberOf bs ≡ Some n → (n < 65536) × (bs ≡ decimal n)
-number-reads [] n e = absurd (some-none n e)
+number-reads [] n e = absurd (none-some n e)
 number-reads (c ∷ []) n e = plain-decimal (c ∷ []) n (omega arith) (λ z. refl) e
 number-reads (c ∷ d ∷ cs) n e =
     ⊎-elim
-    (λ z. absurd (some-none n (sym (cond-true _ _ _ (eq-eqb c 48 z)) ∙ e)))
+    (λ z. absurd (none-some n (sym (cond-true _ _ _ (eq-eqb c 48 z)) ∙ e)))
     (λ z. plain-decimal (c ∷ d ∷ cs) n (omega arith) (λ y. absurd (z y)) (sym (cond-false _ _ _ (ne-eqb c 48 z)) ∙ e))
     (cases-eq c 48)
 

@@ -19,6 +19,7 @@ use Rattle.std.proofs.shelf.Tests.{leb-true, eqb-true, le-leb, eq-eqb, cond-tru
 use Rattle.frame.specs.declared.terms.Term.{Term}
 use Rattle.frame.specs.declared.refusals.Refusal.{Refusal}
 use Rattle.frame.specs.Frames.{minuteAt, weightAt, check, FrameTerms}
+use Rattle.frame.proofs.Apart.{none-some, err-ok}
 use Rattle.frame.proofs.Decides.{check-sound, check-complete}
 use Rattle.frame.specs.declared.frames.Frame.{Frame}
 use Rattle.frame.specs.Parts.{sumOf, termsOf}
@@ -33,12 +34,6 @@ use Rattle.lines.specs.Reading.{Content, content, mapOk, andThen, numberAt, nu
 use Rattle.lines.proofs.Cuts.{AllWhole, split-join, join-split, length-placed}
 use Rattle.lines.proofs.Digits.{number-reads, number-written, decimal-whole}
 use Rattle.lines.proofs.Exits.{pairs-flat}
-
-err-ok : {X E : Type 0} (e : E) (x : X) → _≡_ {A = Result X E} (Err e) (Ok x) → ⊥
-err-ok e x h = let z : _≡_ {A = ℕ} 0 1 = cc in omega arith
-
-none-some : {X : Type 0} (x : X) → _≡_ {A = Option X} None (Some x) → ⊥
-none-some x h = let z : _≡_ {A = ℕ} 0 1 = cc in omega arith
 
 -- each number is a word
 abbrev Words : List ℕ → Type 0

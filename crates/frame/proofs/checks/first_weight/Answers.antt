@@ -3,7 +3,7 @@ use native.Mathlib.Omega.{arith}
 use borrow.Author.Count.{below-more}
 use Rattle.std.proofs.shelf.Lists.{at-drop-all}
 use Rattle.frame.specs.Frames.{firstWeight}
-use Rattle.frame.proofs.Decides.{some-none}
+use Rattle.frame.proofs.Apart.{some-none}
 use Rattle.frame.proofs.Walks.{weight-none, weight-some}
 use Rattle.frame.proofs.checks.first_weight.Needs as need
 
