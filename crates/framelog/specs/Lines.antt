@@ -40,10 +40,17 @@ answers input = answered (split 10 input) ++ answerLast (unfinished (split 10 in
 abbrev pub Holds : LineBuffer → List ℕ → Type 0
 Holds b input = held b ≡ take 257 (unfinished (split 10 input))
 
--- Some bytes of input were taken. Whatever the input was before, and whatever of the output was written
--- before: if the buffer held the unfinished line, and the output was the answers to the finished ones, so it is after.
+-- the output grew by just what the answers grew by, from a to b
+pub record Grows (out out′ : Vec ℕ Global) (a b : List ℕ) : Type 0 where
+  pub text : List ℕ
+  pub output : vec-items out′ ≡ vec-items out ++ text
+  pub answer : b ≡ a ++ text
+
+-- Some bytes of input were taken. Whatever the input was before, if the buffer held its unfinished line, then it holds
+-- the unfinished line now, and what was appended to the output is the answers to the lines that ended in these bytes.
 pub record Keeps (before after : LineBuffer) (out out′ : Vec ℕ Global) (bytes : List ℕ) : Type 0 where
-  pub goes : (input written : List ℕ) → Holds before input → written ++ vec-items out ≡ answered (split 10 input) → Holds after (input ++ bytes) × (written ++ vec-items out′ ≡ answered (split 10 (input ++ bytes)))
+  pub holds : (input : List ℕ) → Holds before input → Holds after (input ++ bytes)
+  pub grows : (input : List ℕ) → Holds before input → Grows out out′ (answered (split 10 input)) (answered (split 10 (input ++ bytes)))
 
 -- all of a chunk was taken; or its first bytes, as far as some output `full` that had no room for one more answer, for want of memory
 abbrev pub Feeds : LineBuffer → LineBuffer → Vec ℕ Global → Vec ℕ Global → List ℕ → Result (Unit {0}) AllocError → Type 0
@@ -59,10 +66,17 @@ Ends before after out out′ part r =
     (λ _. Keeps before after out out′ (part ++ 10 ∷ []))
     (λ _. Keeps before after out out part × (vec-items out′ ≡ vec-items out) × Full out 257)
 
--- the input is at its end: what was written before, and what is appended now, are the answers to all of it
+-- the input is at its end: with what is appended now, the output has the answers to all of it
 pub record Ended (b : LineBuffer) (out out′ : Vec ℕ Global) : Type 0 where
-  pub goes : (input written : List ℕ) → Holds b input → written ++ vec-items out ≡ answered (split 10 input) → written ++ vec-items out′ ≡ answers input
+  pub grows : (input : List ℕ) → Holds b input → Grows out out′ (answered (split 10 input)) (answers input)
 
 -- so it is; or nothing is appended, for want of memory where there was no room for an answer
 abbrev pub Finishes : LineBuffer → Vec ℕ Global → Vec ℕ Global → Result (Unit {0}) AllocError → Type 0
 Finishes b out out′ r = Cases r (λ _. Ended b out out′) (λ _. (vec-items out′ ≡ vec-items out) × Full out 257)
+
+-- a whole log was answered; or the lines that end in its first n bytes, for want of memory where there was no room for an answer
+abbrev pub Checks : Vec ℕ Global → Vec ℕ Global → List ℕ → Result (Unit {0}) AllocError → Type 0
+Checks out out′ log r =
+    Cases r
+    (λ _. vec-items out′ ≡ vec-items out ++ answers log)
+    (λ _. (n : ℕ) × (full : Vec ℕ Global) × (vec-items full ≡ vec-items out ++ answered (split 10 (take n log))) × (vec-items out′ ≡ vec-items full) × Full full 257)

@@ -2,7 +2,7 @@
 ghost use mathlib.Core.Path.{_≡_};
 ghost use mathlib.Core.List.{[]};
 ghost use Rattle.lines.specs.Fields.{Whole};
-ghost use Rattle.framelog.specs.Lines.{Holds, Ends, Feeds, Finishes};
+ghost use Rattle.framelog.specs.Lines.{Holds, Ends, Feeds, Finishes, Checks};
 use super::buffers::LineBuffer;
 use lines::answers::answer;
 use lines::parts::part_end;
@@ -60,4 +60,13 @@ impl LogCheck {
         }
         answer(out, line)
     }
+}
+
+// Appends the answers to all lines of a log.
+pub fn check_log(out: &mut Vec<u8>, log: &[u8]) -> Result<(), AllocError>
+    ensures { λ r. ⌜ Checks (now (out .entry)) (now (out .exit)) (now (log .entry)) r ⌝ }
+{
+    let mut check = LogCheck::new();
+    check.feed(out, log)?;
+    check.finish(out)
 }

@@ -10,6 +10,7 @@ mod tests {
     use frame::refusals::RefusalPartialEq;
     use frame::terms::Term;
     use framelog::logs::LogCheck;
+    use framelog::logs::check_log;
     use lines::answers::answer;
     use lines::numbers::number;
     use lines::reading::read_frame;
@@ -27,9 +28,18 @@ mod tests {
         check_eq(check_terms(&[]), Err(Refusal::TermCount))?;
         check_eq(check_terms(&[term(0, 1); 17]), Err(Refusal::TermCount))?;
         check_eq(check_terms(&[term(0, 1), term(63, 65535)]), Ok(()))?;
-        check_eq(check_terms(&[term(0, 0), term(64, 1)]), Err(Refusal::MinuteOrder(1)))?;
-        check_eq(check_terms(&[term(7, 1), term(7, 1)]), Err(Refusal::MinuteOrder(1)))?;
-        check_eq(check_terms(&[term(6, 1), term(7, 0)]), Err(Refusal::ZeroWeight(1)))
+        check_eq(
+            check_terms(&[term(0, 0), term(64, 1)]),
+            Err(Refusal::MinuteOrder(1)),
+        )?;
+        check_eq(
+            check_terms(&[term(7, 1), term(7, 1)]),
+            Err(Refusal::MinuteOrder(1)),
+        )?;
+        check_eq(
+            check_terms(&[term(6, 1), term(7, 0)]),
+            Err(Refusal::ZeroWeight(1)),
+        )
     }
 
     #[test]
@@ -90,6 +100,9 @@ mod tests {
         check_of_log.feed(&mut out, b"F,5,0")?;
         check_of_log.feed(&mut out, b",1\n\nF,1,0,1")?;
         check_of_log.finish(&mut out)?;
-        check(out.as_slice() == b"F,5,0,1\n?,refused,line,13,0\nF,1,0,1\n")
+        check(out.as_slice() == b"F,5,0,1\n?,refused,line,13,0\nF,1,0,1\n")?;
+        let mut whole = Vec::new(rt.alloc());
+        check_log(&mut whole, b"F,5,0,1\n\nF,1,0,1")?;
+        check(whole.as_slice() == out.as_slice())
     }
 }
