@@ -3,6 +3,7 @@ ghost use mathlib.Core.Path.{_≡_};
 ghost use Prim.Native.Nat.{ℕ, _≤_, _<_};
 ghost use lib.ListN.{length};
 ghost use Rattle.frame.specs.Frames.{minuteAt, weightAt};
+use super::checks::MOST_TERMS;
 use super::terms::Term;
 
 pub mod calls;
@@ -12,7 +13,7 @@ pub mod calls;
 pub struct FrameBuf {
     sum: u16,
     count: usize,
-    terms: [Term; 16],
+    terms: [Term; MOST_TERMS],
     ghost word: { sum < 65536 },
     ghost room: { length terms ≡ 16 },
     ghost some: { 1 ≤ count },

@@ -6,3 +6,9 @@ pub struct Term {
     pub minute: u16,
     pub weight: u16,
 }
+
+// What stands where there is no term yet.
+pub const NO_TERM: Term = Term {
+    minute: 0,
+    weight: 0,
+};

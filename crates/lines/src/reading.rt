@@ -12,6 +12,7 @@ use frame::checks::MOST_TERMS;
 use frame::checks::check_terms;
 use frame::frames::Frame;
 use frame::refusals::Refusal;
+use frame::terms::NO_TERM;
 use frame::terms::Term;
 
 // A line is at most so many bytes when it is read.
@@ -41,14 +42,11 @@ fn read_number(fields: &mut Fields<'_>) -> Result<u16, Refusal>
 }
 
 // So many terms from the fields to come. A frame has at most sixteen, so no more are kept.
-fn read_terms(mut fields: Fields<'_>, count: usize) -> Result<[Term; 16], Refusal>
+fn read_terms(mut fields: Fields<'_>, count: usize) -> Result<[Term; MOST_TERMS], Refusal>
     requires { ⌜ length (toCome fields) ≡ count + count ⌝ }
     ensures { λ r. ⌜ ReadsTerms (toCome (fields .entry)) count r ⌝ }
 {
-    let mut terms = [Term {
-        minute: 0,
-        weight: 0,
-    }; 16];
+    let mut terms = [NO_TERM; MOST_TERMS];
     for i in 0..count {
         let minute = read_number(&mut fields)?;
         let weight = read_number(&mut fields)?;

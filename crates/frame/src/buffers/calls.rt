@@ -4,20 +4,19 @@ ghost use Prim.Native.Nat.{_≤_};
 ghost use lib.ListN.{length, take};
 ghost use Rattle.frame.specs.Parts.{sumOf, termsOf};
 ghost use Rattle.frame.specs.Owned.{sumIn, termsIn};
+use super::super::checks::MOST_TERMS;
 use super::super::frames::Frame;
+use super::super::terms::NO_TERM;
 use super::super::terms::Term;
 use super::FrameBuf;
 
 // Sixteen terms, the first of them those given.
-fn padded(terms: &[Term]) -> [Term; 16]
+fn padded(terms: &[Term]) -> [Term; MOST_TERMS]
     requires { ⌜ length (now terms) ≤ 16 ⌝ }
     ensures room { λ r. ⌜ length r ≡ 16 ⌝ }
     ensures front { λ r. ⌜ take (length (now (terms .entry))) r ≡ now (terms .entry) ⌝ }
 {
-    let mut own = [Term {
-        minute: 0,
-        weight: 0,
-    }; 16];
+    let mut own = [NO_TERM; MOST_TERMS];
     for i in 0..terms.len() {
         own[i] = terms[i];
     }

@@ -4,10 +4,8 @@ ghost use mathlib.Core.List.{[], _++_};
 ghost use Prim.Native.Nat.{_+_, _≤_};
 ghost use lib.ListN.{length, take};
 ghost use Rattle.framelog.specs.Held.{held};
+use super::KEPT;
 use super::LineBuffer;
-
-// One byte more than a line may have.
-const KEPT: usize = 257;
 
 // Writes a part into bytes, from this place on.
 fn copy_at(bytes: &mut [u8], at: usize, part: &[u8])
@@ -24,7 +22,7 @@ impl LineBuffer {
         ensures { λ r. ⌜ held r ≡ [] ⌝ }
     {
         LineBuffer {
-            bytes: [0; 257],
+            bytes: [0; KEPT],
             len: 0,
         }
     }
