@@ -8,9 +8,9 @@ use native.Mathlib.Omega.{arith}
 use native.Mathlib.Nat.{le-of-suc-le-suc, not-suc-le-zero}
 use lib.Dec.{leb, eqb}
 use lib.ListN.{length, getD, take, drop, length-append}
-use Rattle.std.proofs.shelf.Tests.{eq-eqb, ne-eqb, le-leb, lt-leb, cases-eq, cases-lt, cond-true, cond-false, cond-both}
+use Rattle.std.proofs.shelf.Tests.{eq-eqb, ne-eqb, eqb-false, le-leb, lt-leb, cases-eq, cases-lt, cond-true, cond-false, cond-both}
 use Rattle.std.proofs.shelf.Lists.{drop-more, take-append-drop, drop-drop, length-take-le, length-drop, getD-take, getD-drop, drop-all}
-use Rattle.lines.specs.Fields.{Whole, onFirst, split, parted, join, PartEnd, placed, fieldsFrom}
+use Rattle.lines.specs.Fields.{Whole, AllWhole, CutAt, onFirst, split, parted, join, PartEnd, placed, fieldsFrom, fieldsOf}
 
 whole-tail : (s b : ℕ) (p : List ℕ) → Whole s (b ∷ p) → Whole s p
 whole-tail s b p w k h = w (suc k) (omega arith)
@@ -22,11 +22,6 @@ split-last s (b ∷ p) w = cond-false (eqb b s) _ _ (ne-eqb b s (w 0 (omega arit
 pub split-more : (s : ℕ) (p q : List ℕ) → Whole s p → split s (p ++ s ∷ q) ≡ p ∷ split s q
 split-more s [] q w = cond-true (eqb s s) _ _ (eq-eqb s s refl)
 split-more s (b ∷ p) q w = cond-false (eqb b s) _ _ (ne-eqb b s (w 0 (omega arith))) ∙ ap (onFirst b) (split-more s p q (whole-tail s b p w))
-
--- every part is whole
-abbrev pub AllWhole : ℕ → List (List ℕ) → Type 0
-AllWhole s [] = Unit {0}
-AllWhole s (p ∷ ps) = Whole s p × AllWhole s ps
 
 pub split-join : (s : ℕ) (p : List ℕ) (ps : List (List ℕ)) → AllWhole s (p ∷ ps) → split s (join s (p ∷ ps)) ≡ p ∷ ps
 split-join s p [] w = rw append-nil (split-last s p (w .0))
@@ -59,6 +54,22 @@ join-split s (b ∷ bs) =
     (λ e. ap (join s) (cond-true (eqb b s) _ _ (eq-eqb b s e)) ∙ join-next s (split s bs) (split-some s bs) ∙ ap (λ c. c ∷ join s (split s bs)) (sym e) ∙ ap (λ l. b ∷ l) (join-split s bs))
     (λ e. ap (join s) (cond-false (eqb b s) _ _ (ne-eqb b s e)) ∙ join-first s b (split s bs) ∙ ap (λ l. b ∷ l) (join-split s bs))
     (cases-eq b s)
+
+more-whole : (s b : ℕ) (p : List ℕ) → (b ≡ s → ⊥) → Whole s p → Whole s (b ∷ p)
+more-whole s b p ne w zero h e = ne e
+more-whole s b p ne w (suc k) h e = w k (le-of-suc-le-suc h) e
+
+first-whole : (s b : ℕ) (ps : List (List ℕ)) → (b ≡ s → ⊥) → AllWhole s ps → AllWhole s (onFirst b ps)
+first-whole s b [] ne w = (more-whole s b [] ne (λ k h. absurd (not-suc-le-zero h)), tt)
+first-whole s b (p ∷ ps) ne w = (more-whole s b p ne (w .0), w .1)
+
+split-whole : (s : ℕ) (bs : List ℕ) → AllWhole s (split s bs)
+split-whole s [] = (λ k h. absurd (not-suc-le-zero h), tt)
+split-whole s (b ∷ bs) =
+    cond-both (eqb b s) _ _ (AllWhole s) (λ e. (λ k h. absurd (not-suc-le-zero h), split-whole s bs)) (λ e. first-whole s b (split s bs) (eqb-false b s e) (split-whole s bs))
+
+pub cut-at : (s : ℕ) (bs : List ℕ) → CutAt s bs (split s bs)
+cut-at s bs = record { joined = join-split s bs; whole = split-whole s bs }
 
 pub length-placed : (at : ℕ) (ps : List (List ℕ)) → length (placed at ps) ≡ length ps
 length-placed at [] = refl
@@ -108,3 +119,6 @@ module _ (line : List ℕ) (at end : ℕ) (part : PartEnd line at 44 end) (begin
       let cut = ap (split 44) (sym rest ∙ ap (λ l. p ++ l) (drop-all end line last) ∙ append-nil p) ∙ split-last 44 p whole in
       here ∙ ap (placed at) cut ∙ ap (λ l. record { at = at; text = p } ∷ l) (sym (cond-false (leb (end + 1) (length line)) _ [] (lt-leb (end + 1) (length line) (omega arith)))))
       (cases-lt end (length line))
+
+pub fields-start : (line : List ℕ) → fieldsFrom line 0 ≡ fieldsOf line
+fields-start line = cond-true (leb 0 (length line)) _ [] (le-leb 0 (length line) (omega arith))

@@ -26,12 +26,12 @@ use Rattle.frame.specs.Parts.{sumOf, termsOf}
 use Rattle.frame.proofs.Fronts.{frame-terms}
 use Rattle.lines.specs.Answers.{answerOf, Echoes}
 use Rattle.lines.specs.Writing.{OneLine}
-use Rattle.lines.specs.Fields.{Whole, split, parted, join, Field, placed, fieldsOf}
+use Rattle.lines.specs.Fields.{Whole, AllWhole, split, parted, join, Field, placed, fieldsOf}
 use Rattle.lines.specs.Frames.{flat, lineOf, IsFrame}
 use Rattle.lines.specs.Numbers.{numberOf}
 use Rattle.lines.specs.Tokens.{letterOf}
 use Rattle.lines.specs.Reading.{Content, content, mapOk, andThen, numberAt, numbers, firstLetter, pairs, checked, frameOf, readFields, byLetter, read, ReadsFrame}
-use Rattle.lines.proofs.Cuts.{AllWhole, split-join, join-split, length-placed}
+use Rattle.lines.proofs.Cuts.{split-join, join-split, length-placed}
 use Rattle.lines.proofs.Digits.{number-reads, number-written, decimal-whole}
 use Rattle.lines.proofs.Exits.{pairs-flat}
 

@@ -30,6 +30,15 @@ join s (p ∷ ps) = p ++ parted s ps
 abbrev pub Whole : ℕ → List ℕ → Type 0
 Whole s p = (k : ℕ) → k < length p → getD p k 0 ≡ s → ⊥
 
+abbrev pub AllWhole : ℕ → List (List ℕ) → Type 0
+AllWhole s [] = Unit {0}
+AllWhole s (p ∷ ps) = Whole s p × AllWhole s ps
+
+-- the parts are those between separators: joined they are the bytes, and none holds a separator
+pub record CutAt (s : ℕ) (bytes : List ℕ) (parts : List (List ℕ)) : Type 0 where
+  pub joined : join s parts ≡ bytes
+  pub whole : AllWhole s parts
+
 -- the part that begins at `from` ends at `end`: no separator stands between them, and one at `end` unless the bytes end there
 pub record PartEnd (bytes : List ℕ) (from separator end : ℕ) : Type 0 where
   pub after : from ≤ end

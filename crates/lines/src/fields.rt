@@ -1,7 +1,7 @@
 //! The fields of a line, one after the other.
 ghost use mathlib.Core.Path.{_≡_};
 ghost use lib.ListN.{length};
-ghost use Rattle.lines.specs.Fields.{fieldsOf};
+ghost use Rattle.lines.specs.Fields.{split, CutAt, fieldsOf};
 ghost use Rattle.lines.specs.Tokens.{toCome, Next};
 use super::parts::part_end;
 use super::tokens::Token;
@@ -28,7 +28,8 @@ pub fn count_fields(line: &[u8]) -> usize
 
 impl<'a> Fields<'a> {
     pub fn new(line: &'a [u8]) -> Fields<'a>
-        ensures { λ r. ⌜ toCome r ≡ fieldsOf (now (line .entry)) ⌝ }
+        ensures fields { λ r. ⌜ toCome r ≡ fieldsOf (now (line .entry)) ⌝ }
+        ensures cut { λ r. ⌜ CutAt 44 (now (line .entry)) (split 44 (now (line .entry))) ⌝ }
     {
         Fields { line, at: 0 }
     }
