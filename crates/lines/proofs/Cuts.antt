@@ -10,7 +10,7 @@ use lib.Dec.{leb, eqb}
 use lib.ListN.{length, getD, take, drop, length-append}
 use Rattle.std.proofs.shelf.Tests.{eq-eqb, ne-eqb, eqb-false, le-leb, lt-leb, cases-eq, cases-lt, cond-true, cond-false, cond-both}
 use Rattle.std.proofs.shelf.Lists.{drop-more, take-append-drop, drop-drop, length-take-le, length-drop, getD-take, getD-drop, drop-all}
-use Rattle.lines.specs.Fields.{Whole, AllWhole, CutAt, onFirst, split, parted, join, PartEnd, placed, fieldsFrom, fieldsOf}
+use Rattle.lines.specs.Fields.{Whole, AllWhole, CutAt, onFirst, split, parted, join, PartEnd, placed, fieldsFrom}
 
 whole-tail : (s b : ℕ) (p : List ℕ) → Whole s (b ∷ p) → Whole s p
 whole-tail s b p w k h = w (suc k) (omega arith)
@@ -119,6 +119,3 @@ module _ (line : List ℕ) (at end : ℕ) (part : PartEnd line at 44 end) (begin
       let cut = ap (split 44) (sym rest ∙ ap (λ l. p ++ l) (drop-all end line last) ∙ append-nil p) ∙ split-last 44 p whole in
       here ∙ ap (placed at) cut ∙ ap (λ l. record { at = at; text = p } ∷ l) (sym (cond-false (leb (end + 1) (length line)) _ [] (lt-leb (end + 1) (length line) (omega arith)))))
       (cases-lt end (length line))
-
-pub fields-start : (line : List ℕ) → fieldsFrom line 0 ≡ fieldsOf line
-fields-start line = cond-true (leb 0 (length line)) _ [] (le-leb 0 (length line) (omega arith))

@@ -13,9 +13,10 @@ pub struct Fields<'a> {
     at: usize,
 }
 
-// How many fields a line has.
+// How many fields a line has: the parts between its commas.
 pub fn count_fields(line: &[u8]) -> usize
-    ensures { λ r. ⌜ r ≡ length (fieldsOf (now (line .entry))) ⌝ }
+    ensures value { λ r. ⌜ r ≡ length (fieldsOf (now (line .entry))) ⌝ }
+    ensures cut { λ r. ⌜ CutAt 44 (now (line .entry)) (split 44 (now (line .entry))) ⌝ }
 {
     let mut count = 1;
     for byte in line {
@@ -28,8 +29,7 @@ pub fn count_fields(line: &[u8]) -> usize
 
 impl<'a> Fields<'a> {
     pub fn new(line: &'a [u8]) -> Fields<'a>
-        ensures fields { λ r. ⌜ toCome r ≡ fieldsOf (now (line .entry)) ⌝ }
-        ensures cut { λ r. ⌜ CutAt 44 (now (line .entry)) (split 44 (now (line .entry))) ⌝ }
+        ensures { λ r. ⌜ toCome r ≡ fieldsOf (now (line .entry)) ⌝ }
     {
         Fields { line, at: 0 }
     }

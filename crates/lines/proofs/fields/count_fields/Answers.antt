@@ -3,7 +3,7 @@ use native.Mathlib.Omega.{arith}
 use lib.ListN.{length}
 use Rattle.std.proofs.shelf.Lists.{at-drop-all}
 use Rattle.lines.specs.Fields.{split}
-use Rattle.lines.proofs.Cuts.{count-separator, count-other, length-placed}
+use Rattle.lines.proofs.Cuts.{cut-at, count-separator, count-other, length-placed}
 use Rattle.lines.proofs.fields.count_fields.Needs as need
 use Rattle.lines.proofs.fields.count_fields.Needs.{then-byte-eq44, else-byte-eq44}
 
@@ -22,4 +22,4 @@ pub returns : need.returns
 returns c =
     let line = c .args .line .now in
     let end = at-drop-all (λ l. length (split 44 l)) line (c .loop-byte .byte-index) (c .loop-byte-test .left) in
-    omega (arith, length-placed 0 (split 44 line))
+    record { value = omega (arith, length-placed 0 (split 44 line)); cut = cut-at 44 line }

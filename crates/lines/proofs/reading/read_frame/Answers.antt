@@ -14,20 +14,20 @@ returns-then-line-gt-MOST-BYTES c =
 
 pub returns-in-rest : need.returns-in-rest
 returns-in-rest c =
-    let letter = c .in-rest .ensures tt .value ∙ ap firstLetter (c .new-fields .ensures .fields) in
+    let letter = c .in-rest .ensures tt .value ∙ ap firstLetter (c .new-fields .ensures) in
     let e = letter-decides (c .args .line .now) None _ (c .if-line-gt-MOST-BYTES .left) letter refl in
     record { value = e; exact = reads-frame _ _ e }
 
 pub returns-in-F : need.returns-in-F
 returns-in-F c =
-    let letter = ap Some (sym (c .in-F .is)) ∙ c .in-Some .ensures tt .value ∙ ap firstLetter (c .new-fields .ensures .fields) in
-    let rest = c .read-letter .ensures .rest ∙ ap (drop 1) (c .new-fields .ensures .fields) in
+    let letter = ap Some (sym (c .in-F .is)) ∙ c .in-Some .ensures tt .value ∙ ap firstLetter (c .new-fields .ensures) in
+    let rest = c .read-letter .ensures .rest ∙ ap (drop 1) (c .new-fields .ensures) in
     let e = c .read-fields .ensures ∙ letter-decides (c .args .line .now) (Some 70) _ (c .if-line-gt-MOST-BYTES .left) letter rest in
     record { value = e; exact = reads-frame _ _ e }
 
 pub returns-in-rest-letter : need.returns-in-rest-letter
 returns-in-rest-letter c =
-    let letter = c .in-Some .ensures tt .value ∙ ap firstLetter (c .new-fields .ensures .fields) in
+    let letter = c .in-Some .ensures tt .value ∙ ap firstLetter (c .new-fields .ensures) in
     let other : c .in-Some .letter ≡ 70 → ⊥ = λ e. omega arith in
     let e = other-refused (c .args .line .now) _ (c .if-line-gt-MOST-BYTES .left) letter other in
     record { value = e; exact = reads-frame _ _ e }
