@@ -10,13 +10,12 @@ use lib.ListN.{length}
 use Rattle.std.proofs.shelf.Tests.{ltb-true, leb-true, eqb-false, lt-ltb, le-leb, ne-eqb, lt-leb}
 use Rattle.std.specs.declared.option.Option.{Option}
 use Rattle.std.specs.declared.option.Option.the-variants.{Some, None}
-use Rattle.std.specs.declared.result.Result.{Result}
 use Rattle.std.specs.declared.result.Result.the-variants.{Ok, Err}
 use Rattle.frame.proofs.Apart.{some-none, err-ok}
 use Rattle.frame.specs.declared.terms.Term.{Term}
 use Rattle.frame.specs.declared.refusals.Refusal.{Refusal}
-use Rattle.frame.specs.declared.refusals.Refusal.the-variants.{TermCount, MinuteOrder, ZeroWeight}
-use Rattle.frame.specs.Frames.{minuteAt, weightAt, firstMinute, firstWeight, weighed, ordered, check, FrameTerms, Decided}
+use Rattle.frame.specs.declared.refusals.Refusal.the-variants.{TermCount}
+use Rattle.frame.specs.Frames.{minuteAt, weightAt, firstMinute, firstWeight, ordered, check, FrameTerms, Decided}
 
 -- one term of the walk over the minutes
 passes : (a b : Bool) (x : Option ℕ) (at : ℕ) → cond a (cond b x (Some at)) (Some at) ≡ None → (a ≡ true) × (b ≡ true) × (x ≡ None)

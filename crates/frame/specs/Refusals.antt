@@ -1,6 +1,6 @@
 -- The table of refusals: each case's number, its place and its layer. Assumes nothing.
-use Prim.Native.Nat.{ℕ, _≤_}
-use mathlib.Core.Bool.{Bool, cond}
+use Prim.Native.Nat.{ℕ}
+use mathlib.Core.Bool.{cond}
 use lib.Dec.{leb}
 use Rattle.frame.specs.declared.refusals.Refusal.{Refusal}
 use Rattle.frame.specs.declared.refusals.Refusal.the-variants.{Disputed, MinuteBeyondWidth, NoCode, MinuteNoted, LedgerFull, SpaceTooShort, NoSlipToGive, WrongSlip, NoSuchRow, TermCount, MinuteOrder, ZeroWeight, UnknownLine, FieldCount, BadField, SizeOutOfRange}

@@ -1,9 +1,8 @@
 -- How the lines of an input grow with it. Assumes nothing.
 use mathlib.Core.Path.{_≡_, refl, sym, ap, subst, _∙_}
-use mathlib.Core.Bool.{Bool, true, false, cond}
 use mathlib.Core.List.{List, [], _∷_, _++_, append-assoc, append-nil}
 use mathlib.Core.Logic.{⊎-elim}
-use Prim.Native.Nat.{ℕ, _+_, _≤_, _<_}
+use Prim.Native.Nat.{ℕ, _+_, _<_}
 use native.Mathlib.Omega.{arith}
 use lib.Dec.{eqb}
 use lib.ListN.{length, take}
@@ -21,7 +20,7 @@ use Rattle.lines.specs.Writing.{Appends}
 use Rattle.lines.proofs.Cuts.{split-last, split-more, split-some}
 use Rattle.framelog.specs.declared.buffers.LineBuffer.{LineBuffer}
 use Rattle.framelog.specs.Held.{held}
-use Rattle.framelog.specs.Lines.{answered, unfinished, answerLast, answers, Holds, Grows, Keeps, Ended, Finishes, Checks}
+use Rattle.framelog.specs.Lines.{answered, unfinished, answerLast, Holds, Grows, Keeps, Ended, Finishes, Checks}
 use Rattle.framelog.proofs.Kept.{front-front, front-answer}
 
 -- the last part of one list and the first of another are one part

@@ -7,7 +7,7 @@ use native.Mathlib.Nat.{sub-zero}
 use native.Mathlib.Omega.{arith}
 use lib.Dec.{leb}
 use lib.ListN.{length, getD, take, drop, set}
-use Rattle.std.proofs.shelf.Lists.{take-more, take-more-set, take-all, take-take, length-take-le}
+use Rattle.std.proofs.shelf.Lists.{take-more, take-more-set, take-all, length-take-le}
 use Rattle.std.proofs.shelf.Tests.{lt-leb, cond-false, cases-lt}
 use Rattle.std.specs.declared.result.Result.the-variants.{Err}
 use Rattle.frame.specs.declared.refusals.Refusal.the-variants.{UnknownLine}

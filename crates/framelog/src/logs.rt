@@ -1,5 +1,4 @@
 //! The check of a log: chunks in, answers out.
-ghost use mathlib.Core.Path.{_≡_};
 ghost use mathlib.Core.List.{[]};
 ghost use Rattle.lines.specs.Fields.{Whole};
 ghost use Rattle.framelog.specs.Lines.{Holds, Ends, Feeds, Finishes, Checks};

@@ -6,7 +6,7 @@ use native.Mathlib.Omega.{arith}
 use lib.ListN.{length, drop, length-append}
 use Rattle.std.proofs.shelf.Lists.{drop-more}
 use Rattle.std.specs.Written.{decimal}
-use Rattle.std.specs.Of.Vec.{vec-items, vec-len, vec-cap}
+use Rattle.std.specs.Of.Vec.{vec-items}
 use Rattle.std.specs.declared.vec.Vec.{Vec}
 use Rattle.std.specs.declared.alloc.Global.{Global}
 use Rattle.frame.specs.declared.terms.Term.{Term}
@@ -32,9 +32,6 @@ module _ (u v : Vec ℕ Global) (done piece rest all : List ℕ) (room : Room u 
 
   pub left-after : (done ++ piece) ++ rest ≡ all
   left-after = append-assoc done piece rest ∙ is
-
-pub puts-none : (u : Vec ℕ Global) → Puts u u []
-puts-none u = record { items = sym (append-nil (vec-items u)); len = omega arith; capacity = refl }
 
 pub term-next : (ts : List Term) (i : ℕ) → i < length ts → termsText (drop i ts) ≡ (44 ∷ decimal (minuteAt ts i)) ++ ((44 ∷ decimal (weightAt ts i)) ++ termsText (drop (i + 1) ts))
 term-next ts i h = ap termsText (drop-more ts i noTerm h)

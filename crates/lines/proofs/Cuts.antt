@@ -1,13 +1,12 @@
 -- Cutting and joining are inverse to each other. Assumes nothing.
-use mathlib.Core.Path.{_≡_, refl, sym, ap, subst, _∙_}
-use mathlib.Core.Bool.{Bool, true, false, cond}
+use mathlib.Core.Path.{_≡_, refl, sym, ap, _∙_}
 use mathlib.Core.List.{List, [], _∷_, _++_, append-nil}
 use mathlib.Core.Logic.{⊎-elim}
 use Prim.Native.Nat.{ℕ, zero, suc, _+_, _-_, _≤_, _<_}
 use native.Mathlib.Omega.{arith}
 use native.Mathlib.Nat.{le-of-suc-le-suc, not-suc-le-zero}
 use lib.Dec.{leb, eqb}
-use lib.ListN.{length, getD, take, drop, length-append}
+use lib.ListN.{length, getD, take, drop}
 use Rattle.std.proofs.shelf.Tests.{eq-eqb, ne-eqb, eqb-false, le-leb, lt-leb, cases-eq, cases-lt, cond-true, cond-false, cond-both}
 use Rattle.std.proofs.shelf.Lists.{drop-more, take-append-drop, drop-drop, length-take-le, length-drop, getD-take, getD-drop, drop-all}
 use Rattle.lines.specs.Fields.{Whole, AllWhole, CutAt, onFirst, split, parted, join, PartEnd, placed, fieldsFrom}

@@ -2,16 +2,16 @@
 use mathlib.Core.Path.{_≡_, refl, sym, ap, subst, _∙_}
 use mathlib.Core.Bool.{Bool, true, false, cond}
 use mathlib.Core.List.{List, [], _∷_}
-use Prim.Native.Nat.{ℕ, suc, _+_, _-_, _*_, _^_, _≤_, _<_}
+use Prim.Native.Nat.{ℕ, _+_, _-_, _*_, _≤_, _<_}
 use native.Mathlib.Omega.{arith}
 use borrow.Author.Needs.{needs}
-use lib.Dec.{leb, ltb, eqb}
+use lib.Dec.{leb, ltb}
 use lib.ListN.{length, getD, drop}
 use Rattle.std.specs.Text.{In}
 use Rattle.std.specs.Written.{decimal}
 use Rattle.std.specs.declared.option.Option.{Option}
 use Rattle.std.specs.declared.option.Option.the-variants.{Some, None}
-use Rattle.std.proofs.shelf.Tests.{ltb-true, leb-true, eqb-true, eqb-false, lt-ltb, le-leb, lt-leb, le-ltb, eq-eqb, ne-eqb, cases-eq, cond-true, cond-false}
+use Rattle.std.proofs.shelf.Tests.{ltb-true, leb-true, lt-ltb, le-leb, lt-leb, le-ltb, eq-eqb, ne-eqb, cases-eq, cond-true, cond-false}
 use Rattle.std.proofs.shelf.Lists.{drop-more}
 use Rattle.std.proofs.shelf.Numerals.{Numerals, numerals-by-fold, not-in-digits}
 use Rattle.std.proofs.shelf.Decimals.{digits-decimal, value-decimal, decimal-value, decimal-some, first-decimal, decimal-digit}

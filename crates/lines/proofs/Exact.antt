@@ -15,10 +15,10 @@ use Rattle.std.specs.declared.result.Result.{Result}
 use Rattle.std.specs.declared.result.Result.the-variants.{Ok, Err}
 use Rattle.std.proofs.shelf.Decimals.{length-decimal-le}
 use Rattle.std.proofs.shelf.Lists.{length-map}
-use Rattle.std.proofs.shelf.Tests.{leb-true, eqb-true, le-leb, eq-eqb, cond-true}
+use Rattle.std.proofs.shelf.Tests.{eqb-true, le-leb, eq-eqb, cond-true}
 use Rattle.frame.specs.declared.terms.Term.{Term}
 use Rattle.frame.specs.declared.refusals.Refusal.{Refusal}
-use Rattle.frame.specs.Frames.{minuteAt, weightAt, check, FrameTerms}
+use Rattle.frame.specs.Frames.{minuteAt, weightAt, check}
 use Rattle.frame.proofs.Apart.{none-some, err-ok}
 use Rattle.frame.proofs.Decides.{check-sound, check-complete}
 use Rattle.frame.specs.declared.frames.Frame.{Frame}
@@ -26,11 +26,11 @@ use Rattle.frame.specs.Parts.{sumOf, termsOf}
 use Rattle.frame.proofs.Fronts.{frame-terms}
 use Rattle.lines.specs.Answers.{answerOf, Echoes}
 use Rattle.lines.specs.Writing.{OneLine}
-use Rattle.lines.specs.Fields.{Whole, AllWhole, split, parted, join, Field, placed, fieldsOf}
+use Rattle.lines.specs.Fields.{Whole, AllWhole, split, parted, join, Field, placed}
 use Rattle.lines.specs.Frames.{flat, lineOf, IsFrame}
 use Rattle.lines.specs.Numbers.{numberOf}
 use Rattle.lines.specs.Tokens.{letterOf}
-use Rattle.lines.specs.Reading.{Content, content, mapOk, andThen, numberAt, numbers, firstLetter, pairs, checked, frameOf, readFields, byLetter, read, ReadsFrame}
+use Rattle.lines.specs.Reading.{Content, content, mapOk, andThen, numbers, firstLetter, pairs, checked, frameOf, readFields, byLetter, read, ReadsFrame}
 use Rattle.lines.proofs.Cuts.{split-join, join-split, length-placed}
 use Rattle.lines.proofs.Digits.{number-reads, number-written, decimal-whole}
 use Rattle.lines.proofs.Exits.{pairs-flat}

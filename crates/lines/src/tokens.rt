@@ -1,5 +1,4 @@
 //! A field as a token.
-ghost use mathlib.Core.Path.{_≡_};
 ghost use Rattle.lines.specs.Tokens.{TokenOf};
 use super::numbers::number;
 

@@ -1,4 +1,4 @@
-use mathlib.Core.Path.{_≡_, ap, _∙_}
+use mathlib.Core.Path.{ap, _∙_}
 use native.Mathlib.Omega.{arith}
 use Rattle.lines.specs.Answers.{layerName}
 use Rattle.lines.proofs.RefusedLines.{room-number, room-place, puts-refusal, refusal-short}

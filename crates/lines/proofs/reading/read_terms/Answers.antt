@@ -1,10 +1,10 @@
-use mathlib.Core.Path.{_≡_, refl, sym, ap, subst, _∙_}
+use mathlib.Core.Path.{_≡_, refl, sym, ap, _∙_}
 use native.Mathlib.Omega.{arith}
 use lib.ListN.{drop}
 use Rattle.std.proofs.shelf.Results.{err-from-errBy}
 use Rattle.lines.specs.Reading.{firstNumber}
 use Rattle.lines.specs.Tokens.{toCome}
-use Rattle.lines.proofs.Turns.{Sofar, sofar-none, stops-minute, stops-weight, sofar-kept, sofar-past, sofar-all}
+use Rattle.lines.proofs.Turns.{sofar-none, stops-minute, stops-weight, sofar-kept, sofar-past, sofar-all}
 use Rattle.lines.proofs.reading.read_terms.Needs as need
 use Rattle.lines.proofs.reading.read_terms.Needs.{then-i-lt-MOST-TERMS, else-i-lt-MOST-TERMS}
 

@@ -1,4 +1,4 @@
-use mathlib.Core.Path.{_≡_, sym, ap, subst, _∙_}
+use mathlib.Core.Path.{sym, ap, subst, _∙_}
 use mathlib.Core.List.{_∷_, _++_, append-nil}
 use Prim.Native.Nat.{_+_}
 use lib.ListN.{drop}
