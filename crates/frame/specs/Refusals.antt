@@ -7,42 +7,34 @@ use Rattle.frame.specs.declared.refusals.Refusal.the-variants.{Disputed, Minut
 use Rattle.frame.specs.declared.refusals.Layer.{Layer}
 use Rattle.frame.specs.declared.refusals.Layer.the-variants.{Line, Frame, Block}
 
-abbrev pub refusalNumber : Refusal → ℕ
-refusalNumber Disputed = 1
-refusalNumber (MinuteBeyondWidth term) = 2
-refusalNumber (NoCode term) = 3
-refusalNumber MinuteNoted = 4
-refusalNumber LedgerFull = 5
-refusalNumber SpaceTooShort = 6
-refusalNumber NoSlipToGive = 7
-refusalNumber WrongSlip = 8
-refusalNumber NoSuchRow = 9
-refusalNumber TermCount = 10
-refusalNumber (MinuteOrder term) = 11
-refusalNumber (ZeroWeight term) = 12
-refusalNumber UnknownLine = 13
-refusalNumber FieldCount = 14
-refusalNumber (BadField byte) = 15
-refusalNumber SizeOutOfRange = 16
+-- a row of the table: the number, and the place, which is a term's number, the offset of a field's first byte, or 0
+pub record Entry : Type 0 where
+  pub number : ℕ
+  pub place : ℕ
 
--- a term's number, or for a bad field the offset of its first byte; else 0
+abbrev pub entry : Refusal → Entry
+entry Disputed = record { number = 1; place = 0 }
+entry (MinuteBeyondWidth term) = record { number = 2; place = term }
+entry (NoCode term) = record { number = 3; place = term }
+entry MinuteNoted = record { number = 4; place = 0 }
+entry LedgerFull = record { number = 5; place = 0 }
+entry SpaceTooShort = record { number = 6; place = 0 }
+entry NoSlipToGive = record { number = 7; place = 0 }
+entry WrongSlip = record { number = 8; place = 0 }
+entry NoSuchRow = record { number = 9; place = 0 }
+entry TermCount = record { number = 10; place = 0 }
+entry (MinuteOrder term) = record { number = 11; place = term }
+entry (ZeroWeight term) = record { number = 12; place = term }
+entry UnknownLine = record { number = 13; place = 0 }
+entry FieldCount = record { number = 14; place = 0 }
+entry (BadField byte) = record { number = 15; place = byte }
+entry SizeOutOfRange = record { number = 16; place = 0 }
+
+abbrev pub refusalNumber : Refusal → ℕ
+refusalNumber r = entry r .number
+
 abbrev pub refusalPlace : Refusal → ℕ
-refusalPlace Disputed = 0
-refusalPlace (MinuteBeyondWidth term) = term
-refusalPlace (NoCode term) = term
-refusalPlace MinuteNoted = 0
-refusalPlace LedgerFull = 0
-refusalPlace SpaceTooShort = 0
-refusalPlace NoSlipToGive = 0
-refusalPlace WrongSlip = 0
-refusalPlace NoSuchRow = 0
-refusalPlace TermCount = 0
-refusalPlace (MinuteOrder term) = term
-refusalPlace (ZeroWeight term) = term
-refusalPlace UnknownLine = 0
-refusalPlace FieldCount = 0
-refusalPlace (BadField byte) = byte
-refusalPlace SizeOutOfRange = 0
+refusalPlace r = entry r .place
 
 -- 13 to 15 are the line's, 10 to 12 the frame's, all others the block's
 abbrev pub layerAt : ℕ → Layer

@@ -21,7 +21,7 @@ pub enum Refusal {
     NoCode(usize),
     // 4: the minute is noted already
     MinuteNoted,
-    // 5: the ledger holds as many rows as its limit allows
+    // 5: the ledger holds its limit of rows, or more
     LedgerFull,
     // 6: the work space or the list lent is too short
     SpaceTooShort,

@@ -10,7 +10,7 @@ pub mod calls;
 pub const KEPT: usize = MOST_BYTES + 1;
 
 // The bytes of the line under way. Of a long line the first 257 are kept: they show that it is too long.
-#[derive(Clone, Copy)]
+#[derive(Drop)]
 pub struct LineBuffer {
     bytes: [u8; KEPT],
     len: usize,

@@ -8,7 +8,7 @@ use lines::parts::part_end;
 use std::alloc::AllocError;
 
 // A check of a log under way: it holds the line that has not ended yet.
-#[derive(Clone, Copy)]
+#[derive(Drop)]
 pub struct LogCheck {
     line: LineBuffer,
 }

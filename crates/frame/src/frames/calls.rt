@@ -27,8 +27,7 @@ impl<'a> Frame<'a> {
     pub fn terms(&self) -> &'a [Term]
         ensures { λ r. ⌜ now r ≡ termsOf (now (self .entry)) ⌝ }
     {
-        let Frame { terms, .. } = *self;
-        terms
+        self.terms
     }
 
     // How many terms it has.
