@@ -1,10 +1,10 @@
 -- The first terms of a longer list as a frame's terms. Assumes nothing.
 use mathlib.Core.Path.{_≡_, sym, ap, _∙_}
-use mathlib.Core.List.{List, [], _∷_, _++_}
-use Prim.Native.Nat.{ℕ, _+_, _≤_, _<_}
+use mathlib.Core.List.{List}
+use Prim.Native.Nat.{ℕ, _≤_, _<_}
 use native.Mathlib.Omega.{arith}
-use lib.ListN.{length, take, set, getD}
-use Rattle.std.proofs.shelf.Lists.{length-take-le, getD-take, take-more, take-more-set}
+use lib.ListN.{length, take}
+use Rattle.std.proofs.shelf.Lists.{length-take-le, getD-take}
 use Rattle.frame.specs.declared.terms.Term.{Term}
 use Rattle.frame.specs.declared.frames.Frame.{Frame}
 use Rattle.frame.specs.Parts.{termsOf}
@@ -45,11 +45,6 @@ module _ (n : ℕ) (ts : List Term) where
 
     pub words-front : (k : ℕ) → k < n → weightAt ts k < 65536
     words-front k h = omega (arith, weight-front k h, f .words k (omega arith))
-
--- terms copied one by one
-pub copied-more : (own ts : List Term) (i : ℕ) → i < length own → i < length ts → take i own ≡ take i ts → take (i + 1) (set own i (getD ts i noTerm)) ≡ take (i + 1) ts
-copied-more own ts i room h same =
-    take-more-set own i (getD ts i noTerm) room ∙ ap (λ front. front ++ getD ts i noTerm ∷ []) same ∙ sym (take-more ts i noTerm h)
 
 -- the copy of a frame's terms, counted by the frame
 pub copied-all : (f : Frame) (n : ℕ) (own ts : List Term) → n ≡ length (termsOf f) → ts ≡ termsOf f → take (length ts) own ≡ ts → take n own ≡ termsOf f

@@ -5,9 +5,11 @@ use mathlib.Core.Logic.{⊎-elim}
 use Prim.Native.Nat.{ℕ, zero, suc, min, _+_, _-_, _≤_, _<_}
 use native.Mathlib.Nat.{sub-zero}
 use native.Mathlib.Omega.{arith}
+use borrow.Rule.Slice.PartMut.{putMid}
 use lib.Dec.{leb}
-use lib.ListN.{length, getD, take, drop, set}
-use Rattle.std.proofs.shelf.Lists.{take-more, take-more-set, take-all, length-take-le}
+use lib.ListN.{length, getD, take, drop}
+use Rattle.std.proofs.shelf.Lists.{take-more, take-all, length-take-le}
+use Rattle.std.proofs.shelf.Parts.{take-putMid}
 use Rattle.std.proofs.shelf.Tests.{lt-leb, cond-false, cases-lt}
 use Rattle.std.specs.declared.result.Result.the-variants.{Err}
 use Rattle.frame.specs.declared.refusals.Refusal.the-variants.{UnknownLine}
@@ -24,16 +26,6 @@ front-append n [] ys h = ap (λ k. take k ys) (sym (sub-zero n))
 front-append zero (x ∷ xs) ys h = absurd (omega arith)
 front-append (suc n) (x ∷ xs) ys h = ap (λ l. x ∷ l) (front-append n xs ys (omega arith) ∙ ap (λ k. xs ++ take k ys) (let e : n - length xs ≡ suc n - suc (length xs) = omega arith in e))
 
--- a write behind the first bytes
-pub copied-more : (bytes part : List ℕ) (at i : ℕ) (front : List ℕ) → at + i < length bytes → i < length part → take (at + i) bytes ≡ front ++ take i part → take (at + (i + 1)) (set bytes (at + i) (getD part i 0)) ≡ front ++ take (i + 1) part
-copied-more bytes part at i front room h same =
-    let e : at + (i + 1) ≡ (at + i) + 1 = omega arith in
-    ap (λ n. take n (set bytes (at + i) (getD part i 0))) e
-    ∙ take-more-set bytes (at + i) (getD part i 0) room
-    ∙ ap (λ l. l ++ getD part i 0 ∷ []) same
-    ∙ append-assoc front (take i part) (getD part i 0 ∷ [])
-    ∙ ap (λ l. front ++ l) (sym (take-more part i 0 h))
-
 -- as much of a part as there is room for
 pub kept-front : (n len : ℕ) (xs part : List ℕ) → length xs ≡ len → len ≤ n → xs ++ take (min (length part) (n - len)) part ≡ take n (xs ++ part)
 kept-front n len xs part long fits =
@@ -46,12 +38,11 @@ kept-front n len xs part long fits =
     ap (λ k. xs ++ take k part) e ∙ sym (front-append n xs part (omega arith)))
     (cases-lt (length part) (n - len))
 
-pub extended : (bytes bytes′ part : List ℕ) (len count : ℕ) → length bytes ≡ 257 → len ≤ 257 → count ≡ min (length part) (257 - len) → take (len + length (take (count - 0) part)) bytes′ ≡ take len bytes ++ take (count - 0) part → take (len + count) bytes′ ≡ take 257 (take len bytes ++ part)
-extended bytes bytes′ part len count room fits is copied =
-    let long : length (take (count - 0) part) ≡ count = length-take-le (count - 0) part (omega arith) ∙ sub-zero count in
-    ap (λ n. take (len + n) bytes′) (sym long)
-    ∙ copied
-    ∙ ap (λ n. take len bytes ++ take n part) (sub-zero count ∙ is)
+pub extended : (bytes part copied : List ℕ) (len count k : ℕ) → length bytes ≡ 257 → len ≤ 257 → count ≡ min (length part) (257 - len) → copied ≡ take (count - 0) part → take (len + count) (putMid len k bytes copied) ≡ take 257 (take len bytes ++ part)
+extended bytes part copied len count k room fits is copy =
+    let long : length copied ≡ count = ap length copy ∙ length-take-le (count - 0) part (omega arith) ∙ sub-zero count in
+    take-putMid len k bytes copied (len + count) (omega arith) (omega arith)
+    ∙ ap (λ l. take len bytes ++ l) (copy ∙ ap (λ n. take n part) (sub-zero count ∙ is))
     ∙ kept-front 257 len (take len bytes) part (length-take-le len bytes (omega arith)) fits
 
 take-none : {X : Type 0} (n : ℕ) → take {A = X} n [] ≡ []

@@ -28,17 +28,18 @@ pairs-flat (t ∷ ts) = ap (λ l. t ∷ l) (pairs-flat ts)
 pub part-all : (n : ℕ) (kept all : List Term) → take n kept ≡ all → take (n - 0) kept ≡ all
 part-all n kept all e = ap (λ k. take k kept) (sub-zero n) ∙ e
 
-pub even-refused : (fs : List Field) → length fs % 2 ≡ 0 → Err FieldCount ≡ readFields fs
-even-refused fs e = sym (cond-false (eqb (length fs % 2) 1) _ _ (ne-eqb (length fs % 2) 1 (λ o. omega arith)))
+-- count is the number of the fields
+pub even-refused : (fs : List Field) (count : ℕ) → count ≡ length fs → count % 2 ≡ 0 → Err FieldCount ≡ readFields fs
+even-refused fs count all e = sym (cond-false (eqb (length fs % 2) 1) _ _ (ne-eqb (length fs % 2) 1 (λ o. omega arith)))
 
-module _ (fs : List Field) (odd : length fs % 2 ≡ 0 → ⊥) where
+module _ (fs : List Field) (count : ℕ) (all : count ≡ length fs) (odd : count % 2 ≡ 0 → ⊥) where
   numbered : andThen (numbers fs) frameOf ≡ readFields fs
   numbered =
-      let one : length fs % 2 ≡ 1 = omega arith in
+      let one : length fs % 2 ≡ 1 = omega (arith, odd) in
       sym (cond-true (eqb (length fs % 2) 1) _ _ (eq-eqb (length fs % 2) 1 one))
 
   some : 0 < length fs
-  some = omega arith
+  some = omega (arith, odd)
 
   pub sum-stops : (e : Refusal) → firstNumber fs ≡ Err e → Err e ≡ readFields fs
   sum-stops e is = sym (ap (λ r. andThen r frameOf) (numbers-stop fs e some is)) ∙ numbered

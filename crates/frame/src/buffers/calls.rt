@@ -17,9 +17,7 @@ fn padded(terms: &[Term]) -> [Term; MOST_TERMS]
     ensures front { λ r. ⌜ take (length (now (terms .entry))) r ≡ now (terms .entry) ⌝ }
 {
     let mut own = [NO_TERM; MOST_TERMS];
-    for i in 0..terms.len() {
-        own[i] = terms[i];
-    }
+    own[0..terms.len()].copy_from_slice(terms);
     own
 }
 

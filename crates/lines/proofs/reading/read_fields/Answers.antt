@@ -1,6 +1,6 @@
 use mathlib.Core.Path.{_≡_, sym, ap, _∙_}
 use native.Mathlib.Omega.{arith}
-use Prim.Native.Nat.{_/_, _%_}
+use Prim.Native.Nat.{_/_}
 use lib.ListN.{length}
 use Rattle.std.proofs.shelf.Results.{err-from-errBy}
 use Rattle.std.proofs.shelf.Lists.{length-drop}
@@ -17,48 +17,43 @@ read-terms-requires c κs =
     omega (arith, c .pre, c .if-count-eq0 .left)
 
 pub returns-then-count-eq0 : need.returns-then-count-eq0
-returns-then-count-eq0 c = even-refused (toCome (c .args .fields)) (ap (λ n. n % 2) (sym (c .pre)) ∙ c .if-count-eq0 .taken)
+returns-then-count-eq0 c = even-refused (toCome (c .args .fields)) (c .args .count) (c .pre) (c .if-count-eq0 .taken)
 
 pub returns-in-Break-sum : need.returns-in-Break-sum
 returns-in-Break-sum c =
     let p = err-from-errBy (c .from-residual .result) (c .from-residual .ensures .1) in
     let fs = toCome (c .args .fields) in
-    let odd : length fs % 2 ≡ 0 → ⊥ = λ e. c .if-count-eq0 .left (ap (λ n. n % 2) (c .pre) ∙ e) in
-    rw (p .1, p .2) (sum-stops fs odd _ (sym (c .in-Break-sum .ensures tt .value)))
+    rw (p .1, p .2) (sum-stops fs (c .args .count) (c .pre) (c .if-count-eq0 .left) _ (sym (c .in-Break-sum .ensures tt .value)))
 
 pub returns-in-Break-terms : need.returns-in-Break-terms
 returns-in-Break-terms c =
     let p = err-from-errBy (c .from-residual-in-Break-terms .result) (c .from-residual-in-Break-terms .ensures .1) in
     let fs = toCome (c .args .fields) in
-    let odd : length fs % 2 ≡ 0 → ⊥ = λ e. c .if-count-eq0 .left (ap (λ n. n % 2) (c .pre) ∙ e) in
     rw (p .1, p .2)
-    (terms-stop fs odd _ (sym (c .in-Continue-sum .ensures tt .value)) _ (ap numbers (sym (c .read-number .ensures .rest)) ∙ c .in-Break-terms .ensures tt))
+    (terms-stop fs (c .args .count) (c .pre) (c .if-count-eq0 .left) _ (sym (c .in-Continue-sum .ensures tt .value)) _ (ap numbers (sym (c .read-number .ensures .rest)) ∙ c .in-Break-terms .ensures tt))
 
 pub returns-then-pairs-gt-MOST-TERMS : need.returns-then-pairs-gt-MOST-TERMS
 returns-then-pairs-gt-MOST-TERMS c =
     let fs = toCome (c .args .fields) in
-    let odd : length fs % 2 ≡ 0 → ⊥ = λ e. c .if-count-eq0 .left (ap (λ n. n % 2) (c .pre) ∙ e) in
     let read = c .in-Continue-terms .ensures tt .1 in
-    many-refused fs odd _ (sym (c .in-Continue-sum .ensures tt .value)) (read .0) (ap numbers (sym (c .read-number .ensures .rest)) ∙ read .1) (omega (arith, read .2, c .if-pairs-gt-MOST-TERMS .taken))
+    many-refused fs (c .args .count) (c .pre) (c .if-count-eq0 .left) _ (sym (c .in-Continue-sum .ensures tt .value)) (read .0) (ap numbers (sym (c .read-number .ensures .rest)) ∙ read .1) (omega (arith, read .2, c .if-pairs-gt-MOST-TERMS .taken))
 
 pub returns-in-Break-check-terms : need.returns-in-Break-check-terms
 returns-in-Break-check-terms c =
     let p = err-from-errBy (c .from-residual-in-Break-check-terms .result) (c .from-residual-in-Break-check-terms .ensures .1) in
     let fs = toCome (c .args .fields) in
-    let odd : length fs % 2 ≡ 0 → ⊥ = λ e. c .if-count-eq0 .left (ap (λ n. n % 2) (c .pre) ∙ e) in
     let read = c .in-Continue-terms .ensures tt .1 in
     let part = part-all (c .args .count / 2) (c .in-Continue-terms .terms) _ (read .3 (c .if-pairs-gt-MOST-TERMS .left)) in
     let not : check (read .0) ≡ Err (c .in-Break-check-terms .field-0 .0) = ap check (sym part) ∙ sym (c .in-Break-check-terms .ensures tt .value) in
     rw (p .1, p .2)
-    (check-refused fs odd _ (sym (c .in-Continue-sum .ensures tt .value)) (read .0) (ap numbers (sym (c .read-number .ensures .rest)) ∙ read .1) _ not)
+    (check-refused fs (c .args .count) (c .pre) (c .if-count-eq0 .left) _ (sym (c .in-Continue-sum .ensures tt .value)) (read .0) (ap numbers (sym (c .read-number .ensures .rest)) ∙ read .1) _ not)
 
 pub returns : need.returns
 returns c =
     let fs = toCome (c .args .fields) in
-    let odd : length fs % 2 ≡ 0 → ⊥ = λ e. c .if-count-eq0 .left (ap (λ n. n % 2) (c .pre) ∙ e) in
     let read = c .in-Continue-terms .ensures tt .1 in
     let part = part-all (c .args .count / 2) (c .in-Continue-terms .terms) _ (read .3 (c .if-pairs-gt-MOST-TERMS .left)) in
     let ok : check (read .0) ≡ Ok tt = ap check (sym part) ∙ sym (c .in-Continue-check-terms .ensures tt .value) in
     let sum = c .new-2 .ensures .sums ∙ c .new .ensures .sums in
     let terms = c .new-2 .ensures .holds ∙ c .new .ensures .holds ∙ part in
-    ap Ok ((λ i. content (sum i) (terms i))) ∙ frame-read fs odd _ (sym (c .in-Continue-sum .ensures tt .value)) (read .0) (ap numbers (sym (c .read-number .ensures .rest)) ∙ read .1) ok
+    ap Ok ((λ i. content (sum i) (terms i))) ∙ frame-read fs (c .args .count) (c .pre) (c .if-count-eq0 .left) _ (sym (c .in-Continue-sum .ensures tt .value)) (read .0) (ap numbers (sym (c .read-number .ensures .rest)) ∙ read .1) ok
