@@ -1,4 +1,4 @@
-"""Second implementation of framecheck, written from docs/RECEIVER.md, for
+"""Second implementation of framecheck, written from its rules alone before the program stood, for
 comparing outputs. Reads standard input, writes one answer per line."""
 
 import sys

@@ -1,4 +1,4 @@
-"""Cases for framecheck, written by hand from docs/RECEIVER.md.
+"""Cases for framecheck, written out from its rules before the program stood.
 
     framecheck_cases.py DIR            write DIR/stdin and DIR/stdout
     framecheck_cases.py DIR --check    and compare with second/framecheck.py
