@@ -1,6 +1,20 @@
 //! Worked examples, as tests of the crates below. It is a crate of its own, so that they are not proved twice.
+pub mod facts;
+pub mod sevens;
+
 #[cfg(test)]
 mod tests {
+    use crate::facts::worked_facts;
+    use crate::sevens::Seven;
+    use crate::sevens::SevenField;
+    use field::fields::Field;
+    use field::fields::code_of;
+    use field::fields::is_code;
+    use field::fields::laws_hold;
+    use field::octets::OctetField;
+    use field::octets::Octets;
+    use field::primes::Prime;
+    use field::primes::PrimeField;
     use frame::checks::check_terms;
     use frame::refusals::Layer;
     use frame::refusals::LayerDebug;
@@ -104,5 +118,31 @@ mod tests {
         let mut whole = Vec::new(rt.alloc());
         check_log(&mut whole, b"F,5,0,1\n\nF,1,0,1")?;
         check(whole.as_slice() == out.as_slice())
+    }
+
+    // Each value stands in the arguments in the order of the calls: plus, negative, times, inverse.
+    fn fields_work<F: Field>(
+        sum: u16,
+        opposite: u16,
+        product: u16,
+        reciprocal: Option<u16>,
+    ) -> Result<(), Fail> {
+        laws_hold::<F>();
+        check_eq(F::plus(200, 60000), sum)?;
+        check_eq(F::negative(60000), opposite)?;
+        check_eq(F::times(200, 60000), product)?;
+        check_eq(F::inverse(60000), reciprocal)?;
+        check_eq(F::inverse(F::size()), None)?;
+        check_eq(F::times(code_of::<F>(60000), 1), code_of::<F>(60000))?;
+        check(is_code::<F>(code_of::<F>(65535)))?;
+        check(!is_code::<F>(F::size()))
+    }
+
+    #[test]
+    fn three_fields_work() -> Result<(), Fail> {
+        worked_facts();
+        fields_work::<Prime>(60200, 5521, 9657, Some(3406))?;
+        fields_work::<Octets>(168, 96, 72, Some(36))?;
+        fields_work::<Seven>(0, 4, 5, Some(5))
     }
 }
