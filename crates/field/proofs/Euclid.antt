@@ -1,5 +1,5 @@
 -- Euclid's algorithm on a prime and a number below it, with a multiplier for each remainder. Assumes nothing.
-use mathlib.Core.Path.{_≡_, refl, sym, ap, _∙_}
+use mathlib.Core.Path.{_≡_, sym, ap, _∙_}
 use Prim.Native.Nat.{ℕ, _+_, _-_, _*_, _/_, _%_, _<_, _≤_}
 use native.Mathlib.Omega.{arith}
 use native.Mathlib.Nat.{mul-comm, mul-assoc, mul-left-comm, mul-add, add-mul, mul-sub, mul-mod-left, mod-lt, mod-eq-of-lt, div-add-mod, add-mul-mod-self-right, le-mul-of-pos-right}

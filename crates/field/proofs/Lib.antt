@@ -1,10 +1,10 @@
 pub mod Reciprocals
-pub mod Lawfuls
-pub mod Consequent
+pub mod LawsForAll
+pub mod FieldLemmas
 pub mod Tested
 pub mod Residues
-mod Linear
-mod Octet
-mod Logs
-mod OctetLaws
 mod Euclid
+mod Linear
+mod OctetProducts
+mod OctetPowers
+mod OctetLaws

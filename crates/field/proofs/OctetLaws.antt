@@ -1,20 +1,17 @@
 -- The octets are a field. Assumes nothing.
-use mathlib.Core.Path.{_≡_, refl, sym, ap, _∙_}
+use mathlib.Core.Path.{_≡_, sym, ap, _∙_}
 use Prim.Native.Nat.{ℕ, _-_, _%_, _<_}
 use native.Mathlib.Omega.{arith}
-use native.Mathlib.Nat.{mod-lt, mod-mod, mod-eq-of-lt}
+use native.Mathlib.Nat.{mod-mod, mod-eq-of-lt}
 use lib.Dec.{lit<, lit≤}
 use lib.Bits.{bitXor, xor-assoc, xor-comm, xor-self, xor-zero-r, xor-lt}
 use Rattle.field.specs.Laws.{FieldLaws, Lawful}
 use Rattle.field.specs.Octets.{octetTimes, octets, power}
 use Rattle.field.proofs.Reciprocals.{inverse-works}
-use Rattle.field.proofs.Lawfuls.{lawful}
+use Rattle.field.proofs.LawsForAll.{lawful}
 use Rattle.field.proofs.Linear as linear
-use Rattle.field.proofs.Octet.{times-comm, times-assoc, times-one, times-reads, times-code}
-use Rattle.field.proofs.Logs.{power-code, log-of, times-completion}
-
-code : (a : ℕ) → a % 256 < 256
-code a = mod-lt a (lit< tt)
+use Rattle.field.proofs.OctetProducts.{code, times-comm, times-assoc, times-one, times-reads, times-code}
+use Rattle.field.proofs.OctetPowers.{power-code, log-of, times-completion}
 
 xor-code : (a b : ℕ) → bitXor (a % 256) (b % 256) < 256
 xor-code a b = xor-lt 8 (a % 256) (b % 256) (code a) (code b)

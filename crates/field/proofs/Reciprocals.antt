@@ -56,14 +56,6 @@ module _ (K : Operations) (a : ℕ) where
   pub ways : (P : Option ℕ → Type 0) → (reciprocal K a ≡ None → P None) → ((b : ℕ) → reciprocal K a ≡ Some b → P (Some b)) → P (reciprocal K a)
   ways P none some = (elim (reciprocal K a) as (λ r. reciprocal K a ≡ r → P r) [ None ↦ none | Some b ↦ some b ]) refl
 
-  pub some-inverse : (b : ℕ) → reciprocal K a ≡ Some b → inverse K a ≡ b
-  unfolding inverse
-  some-inverse b e = ap (λ r. valueOr r 0) e
-
-  pub none-inverse : reciprocal K a ≡ None → inverse K a ≡ 0
-  unfolding inverse
-  none-inverse e = ap (λ r. valueOr r 0) e
-
   pub inverse-code : 0 < K .q → inverse K a < K .q
   unfolding inverse
   inverse-code h = ways (λ r. valueOr r 0 < K .q) (λ e. h) (λ b e. some-times b e .1)

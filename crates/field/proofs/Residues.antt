@@ -1,18 +1,17 @@
 -- The integers modulo a prime are a field. Assumes nothing.
 use mathlib.Core.Path.{_≡_, refl, sym, ap, _∙_}
 use mathlib.Core.Bool.{Bool, true, false, not}
-use mathlib.Core.Logic.{_⊎_, inl, inr}
+use mathlib.Core.Logic.{inl, inr}
 use Prim.Native.Nat.{ℕ, zero, suc, _+_, _-_, _*_, _/_, _%_, _<_, _≤_}
 use native.Mathlib.Omega.{arith}
 use native.Mathlib.Nat.{add-zero, add-comm, add-assoc, mul-one, mul-comm, mul-assoc, mul-add, add-mul, mul-sub, le-mul-of-pos-right, mul-mod-left, mod-lt, mod-self, mod-mod, mod-eq-of-lt, add-mod, mod-add-mod, add-mod-mod, div-add-mod, mul-add-mod-self-left, eq-or-lt-of-le}
 use lib.Dec.{eqb, ltb, lit<, lit≤}
 use Rattle.std.proofs.shelf.Bits.{mul-le}
 use borrow.Author.Tests.{eq-eqb, ltb-true, ltb-false}
-use Rattle.field.specs.Operations.{Operations}
 use Rattle.field.specs.Laws.{FieldLaws, Lawful}
 use Rattle.field.specs.Modulo.{modulo}
 use Rattle.field.proofs.Reciprocals.{inverse-works}
-use Rattle.field.proofs.Lawfuls.{lawful}
+use Rattle.field.proofs.LawsForAll.{lawful}
 use Rattle.field.proofs.Tested.{allBelow, all-below}
 
 -- no number between 1 and n divides n

@@ -61,3 +61,5 @@ pub record Consequences (K : Operations) : Type 0 where
   pub none-of-zero : (a : ℕ) → a % K .q ≡ 0 → reciprocal K a ≡ None
   pub some-of-others : (a : ℕ) → (a % K .q ≡ 0 → ⊥) → reciprocal K a ≡ Some (inverse K a)
   pub inverse-code : (a : ℕ) → inverse K a < K .q
+  pub reciprocal-of : (a : ℕ) → reciprocal K (a % K .q) ≡ reciprocal K a
+  pub difference-zero : (a b : ℕ) → K .plus a (K .negative b) ≡ 0 → a % K .q ≡ b % K .q

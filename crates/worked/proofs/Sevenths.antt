@@ -6,8 +6,8 @@ use Rattle.std.specs.declared.option.Option.the-variants.{Some}
 use Rattle.field.specs.Operations.{reciprocal}
 use Rattle.field.specs.Laws.{FieldLaws, Lawful}
 use Rattle.field.specs.Modulo.{modulo}
-use Rattle.field.proofs.Lawfuls.{lawful}
-use Rattle.field.proofs.Consequent.{reciprocal-is, times-left}
+use Rattle.field.proofs.LawsForAll.{lawful}
+use Rattle.field.proofs.FieldLemmas.{reciprocal-is, times-left}
 use Rattle.field.proofs.Residues.{modulo-laws, divides-not, undivided-by-test}
 
 pub seven-laws : FieldLaws (modulo 7)

@@ -1,7 +1,7 @@
 -- From the laws of the bound. Assumes nothing.
 use mathlib.Core.Path.{refl}
-use Rattle.field.proofs.Lawfuls.{lawful}
-use Rattle.field.proofs.Consequent.{consequences}
+use Rattle.field.proofs.LawsForAll.{lawful}
+use Rattle.field.proofs.FieldLemmas.{consequences}
 use Rattle.field.proofs.fields.laws_hold.Needs as need
 
 pub returns : need.returns

@@ -1,7 +1,7 @@
 -- The tables pass the test of all their entries, which is computed here. Assumes nothing.
 use mathlib.Core.Path.{refl}
 use Rattle.field.specs.Octets.{product, remainder, octetTimes}
-use Rattle.field.proofs.Logs.{table-rules, tablesPass, doubles, leads}
+use Rattle.field.proofs.OctetPowers.{table-rules, tablesPass, doubles, leads}
 use Rattle.field.proofs.octets.read_tables.Needs as need
 
 pub returns : need.returns

@@ -1,11 +1,11 @@
 -- A logarithm's power times the one that completes 255 is 1. Assumes nothing.
 use mathlib.Core.Path.{_≡_, sym, ap, _∙_}
-use Prim.Native.Nat.{_-_, _%_, _<_}
+use Prim.Native.Nat.{_-_}
 use native.Mathlib.Omega.{arith}
 use Rattle.std.specs.declared.option.Option.the-variants.{Some}
-use Rattle.field.specs.Octets.{octetTimes, octets, power}
-use Rattle.field.proofs.Consequent.{none-of-zero, reciprocal-is, times-left}
-use Rattle.field.proofs.Logs.{power-code, times-completion}
+use Rattle.field.specs.Octets.{octetTimes, power}
+use Rattle.field.proofs.FieldLemmas.{none-of-zero, reciprocal-is, times-left}
+use Rattle.field.proofs.OctetPowers.{power-code, times-completion}
 use Rattle.field.proofs.OctetLaws.{octet-field}
 use Rattle.field.proofs.octets.OctetField.inverse.Needs as need
 

@@ -4,9 +4,9 @@ use mathlib.Core.Logic.{inl, inr}
 use Prim.Native.Nat.{_%_}
 use native.Mathlib.Omega.{arith}
 use Rattle.field.specs.Octets.{octetTimes, power}
-use Rattle.field.proofs.Consequent.{zero-read-times, times-zero-read}
-use Rattle.field.proofs.Octet.{times-reads}
-use Rattle.field.proofs.Logs.{times-power}
+use Rattle.field.proofs.FieldLemmas.{zero-read-times, times-zero-read}
+use Rattle.field.proofs.OctetProducts.{times-reads}
+use Rattle.field.proofs.OctetPowers.{times-power}
 use Rattle.field.proofs.OctetLaws.{octet-field}
 use Rattle.field.proofs.octets.OctetField.times.Needs as need
 

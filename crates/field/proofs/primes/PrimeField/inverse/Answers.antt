@@ -1,6 +1,6 @@
 -- Euclid's number is the one code that makes a product of 1. Assumes nothing.
 use mathlib.Core.Path.{sym, _∙_}
-use Rattle.field.proofs.Consequent.{none-of-zero, reciprocal-is, times-left}
+use Rattle.field.proofs.FieldLemmas.{none-of-zero, reciprocal-is, times-left}
 use Rattle.field.proofs.Residues.{prime-field}
 use Rattle.field.proofs.primes.PrimeField.inverse.Needs as need
 

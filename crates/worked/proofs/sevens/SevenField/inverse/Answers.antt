@@ -2,7 +2,7 @@
 use mathlib.Core.Path.{refl, sym}
 use native.Mathlib.Omega.{arith}
 use lib.Dec.{lit<}
-use Rattle.field.proofs.Consequent.{none-of-zero}
+use Rattle.field.proofs.FieldLemmas.{none-of-zero}
 use Rattle.worked.proofs.Sevenths.{seven-field, inverts}
 use Rattle.worked.proofs.sevens.SevenField.inverse.Needs as need
 

@@ -4,8 +4,9 @@ use mathlib.Core.Logic.{_⊎_, inl, inr}
 use Prim.Native.Nat.{ℕ, zero, suc, _%_, _<_}
 use native.Mathlib.Omega.{arith}
 use native.Mathlib.Nat.{mod-mod, zero-mod, mod-eq-of-lt}
+use Rattle.std.specs.Options.{valueOr}
 use Rattle.std.specs.declared.option.Option.the-variants.{Some, None}
-use Rattle.field.specs.Operations.{Operations, reciprocal, inverse}
+use Rattle.field.specs.Operations.{reciprocal, inverse}
 use Rattle.field.specs.Laws.{Lawful, Consequences}
 use Rattle.field.proofs.Reciprocals.{some-times, ways, found-inverse}
 use Rattle.field.proofs.Reciprocals as found
@@ -194,6 +195,22 @@ module _ (F : Lawful) where
   pub reciprocal-is : (a b : ℕ) → b < F .ops .q → F .ops .times a b ≡ 1 → reciprocal (F .ops) a ≡ Some b
   reciprocal-is a b h e = found-inverse (F .ops) a b h e ∙ ap Some (sym (inverse-unique a b e) ∙ mod-eq-of-lt h)
 
+  -- the inverse reads by the remainder too
+  pub reciprocal-of : (a : ℕ) → reciprocal (F .ops) (a % F .ops .q) ≡ reciprocal (F .ops) a
+  reciprocal-of a =
+      elim (zero-or-not (a % F .ops .q)) [
+        | inl zero-a ↦ none-of-zero (a % F .ops .q) (mod-mod a (F .ops .q) ∙ zero-a) ∙ sym (none-of-zero a zero-a)
+        | inr some ↦ reciprocal-is (a % F .ops .q) (inverse (F .ops) a) (inverse-code a) (times-left a (inverse (F .ops) a) ∙ F .times-inverse a some) ∙ sym (some-of-others a some)
+      ]
+
+  pub inverse-of : (a : ℕ) → inverse (F .ops) (a % F .ops .q) ≡ inverse (F .ops) a
+  unfolding inverse
+  inverse-of a = ap (λ r. valueOr r 0) (reciprocal-of a)
+
+  -- numbers whose difference is 0 are read alike
+  pub difference-zero : (a b : ℕ) → F .ops .plus a (F .ops .negative b) ≡ 0 → a % F .ops .q ≡ b % F .ops .q
+  difference-zero a b e = negative-unique (F .ops .negative b) a (F .plus-comm (F .ops .negative b) a ∙ e) ∙ negative-negative b
+
   pub consequences : Consequences (F .ops)
   consequences =
       record {
@@ -205,18 +222,13 @@ module _ (F : Lawful) where
         none-of-zero = none-of-zero;
         some-of-others = some-of-others;
         inverse-code = inverse-code;
+        reciprocal-of = reciprocal-of;
+        difference-zero = difference-zero;
       }
 
 -- the normal form of sums and products
-pub ruleset ring = (times-plus, plus-times, times-negative, negative-times, negative-plus, negative-negative, negative-zero, times-zero, zero-times, times-one, one-times, plus-zero, zero-plus, plus-negative, plus-negative-plus, negative-plus-plus, plus-between, plus-between-plus, plus-beyond, plus-beyond-plus, plus-left, plus-right, times-left, times-right, negative-of, plus-mod, times-mod, negative-mod, mod-mod, zero-mod-q, one-mod-q, plus-assoc, plus-comm, plus-left-comm, times-assoc, times-comm, times-left-comm)
+pub ruleset ring = (times-plus, plus-times, times-negative, negative-times, negative-plus, negative-negative, negative-zero, times-zero, zero-times, times-one, one-times, plus-zero, zero-plus, plus-negative, plus-negative-plus, negative-plus-plus, plus-between, plus-between-plus, plus-beyond, plus-beyond-plus, plus-left, plus-right, times-left, times-right, negative-of, inverse-of, plus-mod, times-mod, negative-mod, mod-mod, zero-mod-q, one-mod-q, plus-assoc, plus-comm, plus-left-comm, times-assoc, times-comm, times-left-comm)
 
--- tried on what it is for
-module _ (F : Lawful) (a b c d : ℕ) where
-  square : F .ops .times (F .ops .plus a b) (F .ops .plus a (F .ops .negative b)) ≡ F .ops .plus (F .ops .times a a) (F .ops .negative (F .ops .times b b))
-  square = simp ring
-
-  mixed : F .ops .plus (F .ops .plus (F .ops .times a b) c) (F .ops .negative (F .ops .times b a)) ≡ c % F .ops .q
-  mixed = simp ring
-
-  long : F .ops .plus (F .ops .plus (F .ops .times a (F .ops .plus d b)) c) (F .ops .negative (F .ops .times b (F .ops .plus a 0))) ≡ F .ops .plus c (F .ops .times d a)
-  long = simp ring
+-- what the rules are for: an equation of sums and products, by itself
+ring-normalises : (F : Lawful) (a b c d : ℕ) → F .ops .plus (F .ops .plus (F .ops .times a (F .ops .plus d b)) c) (F .ops .negative (F .ops .times b (F .ops .plus a 0))) ≡ F .ops .plus c (F .ops .times d a)
+ring-normalises F a b c d = simp ring

@@ -1,17 +1,15 @@
--- The octets are a field. Assumes nothing.
+-- The product of octets, by its values at the powers of 2. Assumes nothing.
 use mathlib.Core.Path.{_≡_, refl, sym, ap, _∙_}
-use Prim.Native.Nat.{ℕ, zero, suc, _+_, _-_, _*_, _/_, _%_, _^_, _<_, _≤_}
+use Prim.Native.Nat.{ℕ, _%_, _^_, _<_}
 use native.Mathlib.Omega.{arith}
-use native.Mathlib.Nat.{mod-lt, mod-mod, mod-eq-of-lt}
+use native.Mathlib.Nat.{mod-lt, mod-mod}
 use lib.Dec.{lit<}
-use lib.Bits.{bitXor, xor-assoc, xor-comm, xor-self, xor-zero-r, xor-mod, xor-lt}
-use Rattle.field.specs.Operations.{Operations}
-use Rattle.field.specs.Laws.{FieldLaws}
+use lib.Bits.{xor-mod}
 use Rattle.field.specs.Octets.{product, remainder, octetTimes, octets}
 use Rattle.field.proofs.Tested.{equal-below, equal-pairs, equal-triples}
 use Rattle.field.proofs.Linear.{Linear, times-left, times-right, by-basis}
 
-code : (a : ℕ) → a % 256 < 256
+pub code : (a : ℕ) → a % 256 < 256
 code a = mod-lt a (lit< tt)
 
 -- facts at the powers of 2 below 256, computed
@@ -85,6 +83,3 @@ times-reads a b = ap (λ x. remainder 7 (product 8 x (b % 256))) (sym (mod-mod a
 
 pub times-code : (a b : ℕ) → octetTimes a b < 256
 times-code a b = let e = times-reads a b ∙ times-stays (a % 256) (b % 256) (code a) (code b) in let h = code (octetTimes (a % 256) (b % 256)) in omega arith
-
-xor-code : (a b : ℕ) → bitXor (a % 256) (b % 256) < 256
-xor-code a b = xor-lt 8 (a % 256) (b % 256) (code a) (code b)

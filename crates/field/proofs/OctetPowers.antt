@@ -2,7 +2,7 @@
 use mathlib.Core.Path.{_≡_, refl, sym, ap, _∙_}
 use mathlib.Core.Bool.{Bool, true, false}
 use mathlib.Core.List.{List, [], _∷_}
-use Prim.Native.Nat.{ℕ, zero, suc, _+_, _-_, _%_, _<_, _≤_}
+use Prim.Native.Nat.{ℕ, zero, suc, _+_, _-_, _<_, _≤_}
 use native.Mathlib.Omega.{arith}
 use native.Mathlib.Nat.{add-zero, zero-add, suc-add, add-suc, le-of-suc-le-suc}
 use native.Mathlib.Numerals.{one-add}
@@ -12,7 +12,7 @@ use borrow.Author.Tests.{eqb-true, ltb-true}
 use Rattle.field.specs.Octets.{product, remainder, octetTimes, power}
 use Rattle.field.specs.Tables.{TableRules}
 use Rattle.field.proofs.Tested.{allBelow, both, all-below}
-use Rattle.field.proofs.Octet.{times-comm, times-assoc, times-one, times-code}
+use Rattle.field.proofs.OctetProducts.{times-comm, times-assoc, times-one, times-code}
 
 pub power-code : (k : ℕ) → power k < 256
 unfolding power
