@@ -18,24 +18,28 @@ pub record Multipliers (n a high low toHigh toLow : ℕ) : Type 0 where
 pub start : (n a : ℕ) → Multipliers n a n a 0 1
 start n a = record { whole = omega arith; low-count = 0; low-is = omega arith; high-count = 1; high-is = omega arith; some = omega arith }
 
+-- one remainder by the other moves its multiplier, and the sum of products stays
+module _ (p q x y : ℕ) where
+  same-whole : x * (p % q) + (y + p / q * x) * q ≡ x * p + y * q
+  same-whole =
+      let apart = ap (λ z. x * z) (sym (div-add-mod p q)) ∙ mul-add x (q * (p / q)) (p % q) in
+      let turned : p / q * x * q ≡ x * (q * (p / q)) = simp (mul-comm, mul-left-comm) in
+      let spread = add-mul y (p / q * x) q in
+      omega arith
+
 module _ {n a high low toHigh toLow : ℕ} (M : Multipliers n a high low toHigh toLow) where
   -- the high remainder by the low one
   pub lower-high : Multipliers n a (high % low) low (toHigh + high / low * toLow) toLow
   lower-high =
-      let parts = div-add-mod high low in
       let k = high / low in
-      let whole = M .whole in
-      let apart = ap (λ x. toLow * x) (sym parts) ∙ mul-add toLow (low * k) (high % low) in
-      let turned : k * toLow * low ≡ toLow * (low * k) = simp (mul-comm, mul-left-comm) in
-      let spread = add-mul toHigh (k * toLow) low in
+      let parts = div-add-mod high low in
       let high-is = M .high-is in
       let inner = mul-add a toHigh (k * toLow) in
       let moved : a * (k * toLow) ≡ k * low + k * (M .low-count * n) = mul-left-comm a k toLow ∙ ap (λ x. k * x) (M .low-is) ∙ mul-add k low (M .low-count * n) in
-      let counted = add-mul (M .high-count) (k * M .low-count) n in
-      let grouped = mul-assoc k (M .low-count) n in
+      let counted = add-mul (M .high-count) (k * M .low-count) n ∙ ap (λ x. M .high-count * n + x) (mul-assoc k (M .low-count) n) in
       let same = mul-comm k low in
       record {
-        whole = omega arith;
+        whole = same-whole high low toLow toHigh ∙ M .whole;
         low-count = M .low-count;
         low-is = M .low-is;
         high-count = M .high-count + k * M .low-count;
@@ -46,21 +50,17 @@ module _ {n a high low toHigh toLow : ℕ} (M : Multipliers n a high low toHigh 
   -- the low remainder by the high one
   pub lower-low : Multipliers n a high (low % high) toHigh (toLow + low / high * toHigh)
   lower-low =
-      let parts = div-add-mod low high in
       let k = low / high in
-      let whole = M .whole in
-      let apart = ap (λ x. toHigh * x) (sym parts) ∙ mul-add toHigh (high * k) (low % high) in
-      let turned : k * toHigh * high ≡ toHigh * (high * k) = simp (mul-comm, mul-left-comm) in
-      let spread = add-mul toLow (k * toHigh) high in
+      let parts = div-add-mod low high in
       let low-is = M .low-is in
       let inner = mul-add a toLow (k * toHigh) in
       let moved : a * (k * toHigh) + k * high ≡ k * (M .high-count * n) = ap (λ x. x + k * high) (mul-left-comm a k toHigh) ∙ sym (mul-add k (a * toHigh) high) ∙ ap (λ x. k * x) (M .high-is) in
-      let counted = add-mul (M .low-count) (k * M .high-count) n in
-      let grouped = mul-assoc k (M .high-count) n in
+      let counted = add-mul (M .low-count) (k * M .high-count) n ∙ ap (λ x. M .low-count * n + x) (mul-assoc k (M .high-count) n) in
       let same = mul-comm k high in
       let some = M .some in
+      let stays = same-whole low high toHigh toLow in
       record {
-        whole = omega arith;
+        whole = omega (arith, M .whole);
         low-count = M .low-count + k * M .high-count;
         low-is = omega arith;
         high-count = M .high-count;
