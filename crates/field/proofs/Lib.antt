@@ -6,5 +6,6 @@ pub mod Residues
 mod Euclid
 mod Linear
 mod OctetProducts
+mod Division
 mod OctetPowers
 mod OctetLaws

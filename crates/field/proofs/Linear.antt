@@ -36,7 +36,7 @@ times-bit zero y z h = zero-mul (bitXor y z) ∙ sym (ap (λ x. bitXor x (0 * z)
 times-bit (suc zero) y z h = simp one-mul
 times-bit (suc (suc t)) y z h = absurd (omega arith)
 
-coefficient-bit : (a k : ℕ) → coefficient a k < 2
+pub coefficient-bit : (a k : ℕ) → coefficient a k < 2
 coefficient-bit a k = mod-lt (a / 2 ^ k) (omega arith)
 
 coefficient-linear : (k : ℕ) → Linear (λ a. coefficient a k)
@@ -45,7 +45,7 @@ coefficient-linear k a b = ap (λ x. x % 2) (xor-shr a b k) ∙ xor-mod (a / 2 ^
 shift-linear : (k : ℕ) → Linear (λ a. a * 2 ^ k)
 shift-linear k a b = sym (simp add-zero at (xor-block k a b 0 0 (pow-pos k) (pow-pos k)))
 
-product-right : (n a : ℕ) → Linear (λ b. product n a b)
+pub product-right : (n a : ℕ) → Linear (λ b. product n a b)
 unfolding product
 product-right zero a b c = refl
 product-right (suc n) a b c =
@@ -63,7 +63,7 @@ product-left (suc n) c a b =
     ∙ ap (λ x. bitXor (bitXor (coefficient c n * (a * 2 ^ n)) (coefficient c n * (b * 2 ^ n))) x) (product-left n c a b)
     ∙ xor-exchange (coefficient c n * (a * 2 ^ n)) (coefficient c n * (b * 2 ^ n)) (product n a c) (product n b c)
 
-remainder-linear : (n : ℕ) → Linear (remainder n)
+pub remainder-linear : (n : ℕ) → Linear (remainder n)
 unfolding remainder
 remainder-linear zero a b = refl
 remainder-linear (suc n) a b =
@@ -79,6 +79,12 @@ times-right a b c = ap (λ x. remainder 7 (product 8 (a % 256) x)) (xor-mod b c 
 pub times-left : (b : ℕ) → Linear (λ a. octetTimes a b)
 unfolding octetTimes
 times-left c a b = ap (λ x. remainder 7 (product 8 x (c % 256))) (xor-mod a b 8) ∙ ap (remainder 7) (product-left 8 (c % 256) (a % 256) (b % 256)) ∙ remainder-linear 7 (product 8 (a % 256) (c % 256)) (product 8 (b % 256) (c % 256))
+
+pub after : (f g : ℕ → ℕ) → Linear f → Linear g → Linear (λ a. f (g a))
+after f g f-linear g-linear a b = ap f (g-linear a b) ∙ f-linear (g a) (g b)
+
+pub octet-linear : Linear (λ a. a % 256)
+octet-linear a b = xor-mod a b 8
 
 module _ (f : ℕ → ℕ) (linear : Linear f) where
   pub linear-zero : f 0 ≡ 0

@@ -4,10 +4,9 @@ use Prim.Native.Nat.{ℕ, _%_, _^_, _<_}
 use native.Mathlib.Omega.{arith}
 use native.Mathlib.Nat.{mod-lt, mod-mod}
 use lib.Dec.{lit<}
-use lib.Bits.{xor-mod}
 use Rattle.field.specs.Octets.{product, remainder, octetTimes, octets}
 use Rattle.field.proofs.Tested.{equal-below, equal-pairs, equal-triples}
-use Rattle.field.proofs.Linear.{Linear, times-left, times-right, by-basis}
+use Rattle.field.proofs.Linear.{Linear, after, octet-linear, times-left, times-right, by-basis}
 
 pub code : (a : ℕ) → a % 256 < 256
 code a = mod-lt a (lit< tt)
@@ -37,12 +36,6 @@ module _ (f g : ℕ → ℕ → ℕ) (f-left : (b : ℕ) → Linear (λ a. f a b
       (λ i hi. by-basis (f (2 ^ i)) (g (2 ^ i)) (f-right (2 ^ i)) (g-right (2 ^ i)) 8 (λ j hj. same i j hi hj) b hb)
       a
       ha
-
-after : (f g : ℕ → ℕ) → Linear f → Linear g → Linear (λ a. f (g a))
-after f g f-linear g-linear a b = ap f (g-linear a b) ∙ f-linear (g a) (g b)
-
-octet-linear : Linear (λ a. a % 256)
-octet-linear a b = xor-mod a b 8
 
 pub times-comm : (a b : ℕ) → a < 256 → b < 256 → octetTimes a b ≡ octetTimes b a
 times-comm = by-bases octetTimes (λ a b. octetTimes b a) times-left times-right times-right times-left basis-commutes

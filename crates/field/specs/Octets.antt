@@ -1,5 +1,6 @@
 -- The octets of RFC 6330, section 5.7: polynomials of degree below 8 over the field of two elements, modulo one of degree 8. The bits of a number are the coefficients. Assumes nothing.
-use Prim.Native.Nat.{ℕ, zero, suc, _+_, _*_, _/_, _%_, _^_}
+use mathlib.Core.Path.{_≡_}
+use Prim.Native.Nat.{ℕ, zero, suc, _+_, _*_, _/_, _%_, _^_, _<_}
 use lib.Bits.{bitXor}
 use Rattle.field.specs.Operations.{Operations}
 
@@ -23,6 +24,10 @@ remainder (suc n) a = remainder n (bitXor a (coefficient a (n + 8) * (modulus * 
 
 unfoldable pub octetTimes : ℕ → ℕ → ℕ
 octetTimes a b = remainder 7 (product 8 (a % 256) (b % 256))
+
+-- in words: it has degree below 8, and differs from the product of the polynomials by a multiple of the modulus
+abbrev pub ReducedProducts : Type 0
+ReducedProducts = (a b : ℕ) → a < 256 → b < 256 → (octetTimes a b < 256) × ((d : ℕ) × (product 8 a b ≡ bitXor (product 7 modulus d) (octetTimes a b)))
 
 abbrev pub octets : Operations
 octets = record { q = 256; plus = λ a b. bitXor (a % 256) (b % 256); negative = λ a. a % 256; times = octetTimes }

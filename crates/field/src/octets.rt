@@ -1,7 +1,7 @@
 //! The field of 256 elements of RFC 6330, section 5.7: octets as polynomials of degree below 8 over two elements.
 ghost use mathlib.Core.Path.{_≡_};
 ghost use Prim.Native.Nat.{_<_};
-ghost use Rattle.field.specs.Octets.{octets, power};
+ghost use Rattle.field.specs.Octets.{octets, power, ReducedProducts};
 ghost use Rattle.field.specs.Tables.{TableRules, LogOf};
 use crate::fields::Field;
 
@@ -103,3 +103,8 @@ pub impl Field for Octets as OctetField {
         if a == 0 { None } else { Some(b) }
     }
 }
+
+// A product of octets differs from the product of their polynomials by a multiple of the polynomial with bits 285.
+pub fn products_are_reduced()
+    ensures { λ _. ⌜ ReducedProducts ⌝ }
+{}

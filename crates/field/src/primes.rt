@@ -4,8 +4,6 @@ ghost use mathlib.Core.Path.{_≡_};
 ghost use Rattle.field.specs.Modulo.{modulo};
 use crate::fields::Field;
 
-const MODULUS: u32 = 65521;
-
 // The inverse of a number from 1 to 65520, by Euclid's algorithm on the modulus and the number. Modulo 65521, the number times
 // `to_low` is `low`, and the number times `to_high` is `high` with the other sign.
 fn invert(a: u32) -> u32
@@ -13,7 +11,7 @@ fn invert(a: u32) -> u32
     ensures code { λ r. ⌜ r < 65521 ⌝ }
     ensures inverts { λ r. ⌜ (a * r) % 65521 ≡ 1 ⌝ }
 {
-    let mut high = MODULUS;
+    let mut high = Prime::Q as u32;
     let mut low = a;
     let mut to_high = 0;
     let mut to_low = 1;
@@ -21,7 +19,7 @@ fn invert(a: u32) -> u32
         to_high += high / low * to_low;
         high %= low;
         if high == 1 {
-            return MODULUS - to_high;
+            return Prime::Q as u32 - to_high;
         }
         to_low += low / high * to_high;
         low %= high;
@@ -33,7 +31,7 @@ fn invert(a: u32) -> u32
 pub struct Prime;
 
 pub impl Field for Prime as PrimeField {
-    const Q: u16 = MODULUS as u16;
+    const Q: u16 = 65521;
 
     ghost ops = { modulo 65521 };
 
@@ -42,7 +40,7 @@ pub impl Field for Prime as PrimeField {
     }
 
     fn plus(a: u16, b: u16) -> u16 {
-        ((u32::from(a) + u32::from(b)) % MODULUS) as u16
+        ((u32::from(a) + u32::from(b)) % Self::Q as u32) as u16
     }
 
     fn negative(a: u16) -> u16 {
@@ -50,7 +48,7 @@ pub impl Field for Prime as PrimeField {
     }
 
     fn times(a: u16, b: u16) -> u16 {
-        (u32::from(a) * u32::from(b) % MODULUS) as u16
+        (u32::from(a) * u32::from(b) % Self::Q as u32) as u16
     }
 
     fn inverse(a: u16) -> Option<u16> {
