@@ -8,10 +8,11 @@ against it in /tmp/field_bench, for a plain x86-64, and runs it. That program
 checks that both sides give the same codes, then times them in turn.
 
 Where the linker puts a short loop moves its time by up to a half, so the program
-is built four times with the library's functions 0, 16, 32 and 48 bytes further
-on, and each build is run three times in turn. Printed for each comparison: the
-median of each side over all runs, the ratio of the two (under 1 the library is
-the faster), and the ratios of single runs, lowest and highest.
+is built four times, with the functions of both sides 0, 16, 32 and 48 bytes
+further on, in another pairing each time, and each build is run three times in
+turn. Printed for each comparison: the median of each side over all runs, the
+ratio of the two (under 1 the library is the faster), and the ratios of single
+runs, lowest and highest. It needs rustc and cc.
 """
 
 import argparse
@@ -25,7 +26,7 @@ import sys
 ROOT = os.path.dirname(os.path.dirname(os.path.abspath(__file__)))
 SOURCE = os.path.join(ROOT, "bench", "fields.rs")
 FOLDER = "/tmp/field_bench"
-SHIFTS = [0, 16, 32, 48]
+SHIFTS = [(0, 32), (16, 0), (32, 48), (48, 16)]  # of the library and of plain Rust
 RUNS = 3
 LINE = re.compile(r"(.*): library ([0-9.]+) ns, plain Rust ([0-9.]+) ns, ratio ")
 
@@ -38,8 +39,8 @@ def find_library():
     return max(found, key=os.path.getmtime)
 
 
-def build(library, shift):
-    """The program with that many bytes of text before the library's."""
+def build(library, shift, rust_shift):
+    """The program with so many bytes of text before the functions of each side."""
     os.makedirs(FOLDER, exist_ok=True)
     padding = os.path.join(FOLDER, "padding%d" % shift)
     program = os.path.join(FOLDER, "fields%d" % shift)
@@ -52,6 +53,7 @@ def build(library, shift):
          "-C", "link-arg=" + padding + ".o", "-C", "link-arg=-Wl,-u,padding",
          "-C", "link-arg=" + library, "-C", "link-arg=-lc", "-o", program, SOURCE],
         check=True,
+        env=dict(os.environ, PADDING=str(rust_shift)),
     )
     return program
 
@@ -75,9 +77,11 @@ def main():
         sys.exit("no such file: " + library)
     print("library: " + library, flush=True)
     try:
-        times = measure([build(library, shift) for shift in SHIFTS])
+        times = measure([build(library, *shifts) for shifts in SHIFTS])
     except subprocess.CalledProcessError as error:
         sys.exit("%s failed" % error.cmd[0])
+    if not times:
+        sys.exit("the program printed no comparison")
     for name, pairs in times.items():
         ours = statistics.median(pair[0] for pair in pairs)
         rust = statistics.median(pair[1] for pair in pairs)

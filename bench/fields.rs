@@ -27,9 +27,10 @@ const ROUNDS: usize = 60;
 const ROUND_SECONDS: f64 = 0.005;
 
 /// The powers of 2 twice over, so that a sum of two logarithms needs no
-/// remainder, and the logarithms (that of 0 is never used).
-const fn tables() -> ([u8; 510], [u8; 256]) {
-    let mut exp = [0; 510];
+/// remainder, in 512 places, so that it needs no test of the index either; and
+/// the logarithms (that of 0 is never used).
+const fn tables() -> ([u8; 512], [u8; 256]) {
+    let mut exp = [0; 512];
     let mut log = [0; 256];
     let mut power = 1;
     let mut i = 0;
@@ -46,8 +47,28 @@ const fn tables() -> ([u8; 510], [u8; 256]) {
     (exp, log)
 }
 
-static EXP: [u8; 510] = tables().0;
+static EXP: [u8; 512] = tables().0;
 static LOG: [u8; 256] = tables().1;
+
+/// How many bytes of text stand before the functions below.
+const fn padding() -> usize {
+    let digits = match option_env!("PADDING") {
+        Some(text) => text.as_bytes(),
+        None => &[],
+    };
+    let mut bytes = 0;
+    let mut i = 0;
+    while i < digits.len() {
+        bytes = bytes * 10 + (digits[i] - b'0') as usize;
+        i += 1;
+    }
+    bytes
+}
+
+#[inline(never)]
+fn stand_before() {
+    unsafe { std::arch::asm!(".skip {bytes}, 0x90", bytes = const padding()) }
+}
 
 // The operations, with the library's own signatures.
 
@@ -157,7 +178,7 @@ fn shuffled(seed: u64) -> Vec<u16> {
     words
 }
 
-/// The same words made odd, so that none is read as 0.
+/// The same words made odd, so that no octet is 0.
 fn odd(words: &[u16]) -> Vec<u16> {
     words.iter().map(|word| word | 1).collect()
 }
@@ -212,7 +233,7 @@ fn compare(name: &str, library: Pass, rust: Pass) {
     }
     let (library, rust) = (median(library_times), median(rust_times));
     println!(
-        "{name}: library {library:.2} ns, plain Rust {rust:.2} ns, ratio {:.2}",
+        "{name}: library {library:.4} ns, plain Rust {rust:.4} ns, ratio {:.2}",
         library / rust
     );
 }
@@ -226,6 +247,7 @@ fn inverse_of(function: LibraryInverse, a: &[u16], out: &mut [u16]) {
 }
 
 fn main() {
+    stand_before();
     let (a, b) = (shuffled(0x9e37_79b9_7f4a_7c15), shuffled(0x2545_f491_4f6c_dd1d));
     let (a, b) = (a.as_slice(), b.as_slice());
     let (odd_a, odd_b) = (odd(a), odd(b));
@@ -241,17 +263,17 @@ fn main() {
             &|out| rust_octets_times(black_box(a), black_box(b), out),
         ),
         (
-            "octets times without zeros",
+            "octets times, no factor 0",
             &|out| times_of(octets_times, black_box(&odd_a), black_box(&odd_b), out),
             &|out| rust_octets_times(black_box(&odd_a), black_box(&odd_b), out),
         ),
         (
-            "prime inverse, usual Euclid",
+            "prime inverse, beside the usual extended Euclid",
             &|out| inverse_of(prime_inverse, black_box(a), out),
             &|out| rust_prime_inverse_euclid(black_box(a), out),
         ),
         (
-            "prime inverse, same loop",
+            "prime inverse, beside the same loop",
             &|out| inverse_of(prime_inverse, black_box(a), out),
             &|out| rust_prime_inverse_two_sides(black_box(a), out),
         ),

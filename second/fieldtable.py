@@ -74,11 +74,11 @@ def pairs():
     for x in EDGES:
         for y in EDGES:
             yield x, y
-    word = 1
+    state = 1
     for _ in range(PAIRS):
-        following = (word * 25173 + 13849) % 65536
-        yield word, following
-        word = (following * 25173 + 13849) % 65536
+        first = (state * 1664525 + 1013904223) % 2**32
+        state = (first * 1664525 + 1013904223) % 2**32
+        yield first >> 16, state >> 16
 
 
 def line(values):

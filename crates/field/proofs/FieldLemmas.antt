@@ -139,7 +139,7 @@ module _ (F : Lawful) where
   pub plus-left-comm : (a b c : ℕ) → F .ops .plus a (F .ops .plus b c) ≡ F .ops .plus b (F .ops .plus a c)
   plus-left-comm a b c = sym (F .plus-assoc a b c) ∙ ap (λ x. F .ops .plus x c) (F .plus-comm a b) ∙ F .plus-assoc b a c
 
-  -- the same with one or two others between
+  -- a number and its negative fall out of a sum with one or two other summands between them
   pub plus-between : (a b : ℕ) → F .ops .plus a (F .ops .plus b (F .ops .negative a)) ≡ b % F .ops .q
   plus-between a b = ap (λ x. F .ops .plus a x) (F .plus-comm b (F .ops .negative a)) ∙ plus-negative-plus a b
 
@@ -151,6 +151,12 @@ module _ (F : Lawful) where
 
   pub plus-beyond-plus : (a b c d : ℕ) → F .ops .plus a (F .ops .plus b (F .ops .plus c (F .ops .plus (F .ops .negative a) d))) ≡ F .ops .plus b (F .ops .plus c d)
   plus-beyond-plus a b c d = plus-left-comm a b (F .ops .plus c (F .ops .plus (F .ops .negative a) d)) ∙ ap (λ x. F .ops .plus b x) (plus-between-plus a c d)
+
+  pub negative-between : (a b : ℕ) → F .ops .plus (F .ops .negative a) (F .ops .plus b a) ≡ b % F .ops .q
+  negative-between a b = ap (λ x. F .ops .plus (F .ops .negative a) x) (F .plus-comm b a) ∙ negative-plus-plus a b
+
+  pub negative-between-plus : (a b c : ℕ) → F .ops .plus (F .ops .negative a) (F .ops .plus b (F .ops .plus a c)) ≡ F .ops .plus b c
+  negative-between-plus a b c = ap (λ x. F .ops .plus (F .ops .negative a) x) (plus-left-comm b a c) ∙ negative-plus-plus a (F .ops .plus b c) ∙ plus-mod b c
 
   pub times-left-comm : (a b c : ℕ) → F .ops .times a (F .ops .times b c) ≡ F .ops .times b (F .ops .times a c)
   times-left-comm a b c = sym (F .times-assoc a b c) ∙ ap (λ x. F .ops .times x c) (F .times-comm a b) ∙ F .times-assoc b a c
@@ -226,8 +232,8 @@ module _ (F : Lawful) where
         difference-zero = difference-zero;
       }
 
--- the normal form of sums and products
-pub ruleset ring = (times-plus, plus-times, times-negative, negative-times, negative-plus, negative-negative, negative-zero, times-zero, zero-times, times-one, one-times, plus-zero, zero-plus, plus-negative, plus-negative-plus, negative-plus-plus, plus-between, plus-between-plus, plus-beyond, plus-beyond-plus, plus-left, plus-right, times-left, times-right, negative-of, inverse-of, plus-mod, times-mod, negative-mod, mod-mod, zero-mod-q, one-mod-q, plus-assoc, plus-comm, plus-left-comm, times-assoc, times-comm, times-left-comm)
+-- rules that spread products over sums, sort both, and let a number and its negative fall out where at most two others stand between them
+pub ruleset ring = (times-plus, plus-times, times-negative, negative-times, negative-plus, negative-negative, negative-zero, times-zero, zero-times, times-one, one-times, plus-zero, zero-plus, plus-negative, plus-negative-plus, negative-plus-plus, plus-between, plus-between-plus, plus-beyond, plus-beyond-plus, negative-between, negative-between-plus, plus-left, plus-right, times-left, times-right, negative-of, inverse-of, plus-mod, times-mod, negative-mod, mod-mod, zero-mod-q, one-mod-q, plus-assoc, plus-comm, plus-left-comm, times-assoc, times-comm, times-left-comm)
 
 -- what the rules are for: an equation of sums and products, by itself
 ring-normalises : (F : Lawful) (a b c d : ℕ) → F .ops .plus (F .ops .plus (F .ops .times a (F .ops .plus d b)) c) (F .ops .negative (F .ops .times b (F .ops .plus a 0))) ≡ F .ops .plus c (F .ops .times d a)

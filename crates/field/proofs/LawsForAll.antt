@@ -11,7 +11,7 @@ module _ (K : Operations) (L : FieldLaws K) where
   pub code : (a : ℕ) → a % K .q < K .q
   code a = let h = L .two-codes in mod-lt a (omega arith)
 
-  -- an operation that reads by remainders, about one that gives codes
+  -- an operation that reads by remainders
   module _ (f : ℕ → ℕ → ℕ) (reads : (a b : ℕ) → f a b ≡ f (a % K .q) (b % K .q)) where
     pub left : (a b : ℕ) → f (a % K .q) b ≡ f a b
     left a b = reads (a % K .q) b ∙ ap (λ x. f x (b % K .q)) (mod-mod a (K .q)) ∙ sym (reads a b)

@@ -8,4 +8,4 @@ mod Linear
 mod OctetProducts
 mod Division
 mod OctetPowers
-mod OctetLaws
+pub mod OctetLaws

@@ -4,7 +4,7 @@ use Prim.Native.Nat.{ℕ, _%_, _^_, _<_}
 use native.Mathlib.Omega.{arith}
 use native.Mathlib.Nat.{mod-lt, mod-mod}
 use lib.Dec.{lit<}
-use Rattle.field.specs.Octets.{product, remainder, octetTimes, octets}
+use Rattle.field.specs.Octets.{product, remainder, octetTimes}
 use Rattle.field.proofs.Tested.{equal-below, equal-pairs, equal-triples}
 use Rattle.field.proofs.Linear.{Linear, after, octet-linear, times-left, times-right, by-basis}
 

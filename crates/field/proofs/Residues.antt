@@ -88,10 +88,11 @@ module _ (n : ℕ) where
             inverse-works (modulo n) a (b .0 % n) (code (b .0)) (mul-mod-r a (b .0) ∙ b .1);
       }
 
--- the test of the numbers from 2 to r + 1 as divisors of n
+-- d + 2 does not divide n
 unfoldable pub divides-not : ℕ → ℕ → Bool
 divides-not n d = not (eqb (n % (d + 2)) 0)
 
+-- where no number from 2 to r + 1 divides n
 module _ (n r : ℕ) (passed : allBelow (divides-not n) r ≡ true) where
   small-divisor : (d : ℕ) → 1 < d → d < r + 2 → n % d ≡ 0 → ⊥
   unfolding divides-not

@@ -1,4 +1,5 @@
--- The octets of RFC 6330, section 5.7: polynomials of degree below 8 over the field of two elements, modulo one of degree 8. The bits of a number are the coefficients. Assumes nothing.
+-- The octets of RFC 6330, section 5.7: polynomials of degree below 8 over the field of two elements, modulo one of
+-- degree 8. The bits of a number are the coefficients. Assumes nothing.
 use mathlib.Core.Path.{_≡_}
 use Prim.Native.Nat.{ℕ, zero, suc, _+_, _*_, _/_, _%_, _^_, _<_}
 use lib.Bits.{bitXor}
@@ -8,7 +9,7 @@ use Rattle.field.specs.Operations.{Operations}
 abbrev pub coefficient : ℕ → ℕ → ℕ
 coefficient a k = a / 2 ^ k % 2
 
--- the product of a polynomial and the n lowest places of another: the first one shifted to each place with a coefficient 1
+-- the product of a polynomial and the n lowest places of another: the first, shifted to each place with a coefficient 1
 unfoldable pub product : ℕ → ℕ → ℕ → ℕ
 product zero a b = 0
 product (suc n) a b = bitXor (coefficient b n * (a * 2 ^ n)) (product n a b)
@@ -25,7 +26,7 @@ remainder (suc n) a = remainder n (bitXor a (coefficient a (n + 8) * (modulus * 
 unfoldable pub octetTimes : ℕ → ℕ → ℕ
 octetTimes a b = remainder 7 (product 8 (a % 256) (b % 256))
 
--- in words: it has degree below 8, and differs from the product of the polynomials by a multiple of the modulus
+-- a product of octets has degree below 8, and differs from the product of the polynomials by a multiple of the modulus
 abbrev pub ReducedProducts : Type 0
 ReducedProducts = (a b : ℕ) → a < 256 → b < 256 → (octetTimes a b < 256) × ((d : ℕ) × (product 8 a b ≡ bitXor (product 7 modulus d) (octetTimes a b)))
 

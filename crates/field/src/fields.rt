@@ -13,7 +13,7 @@ pub trait Field {
 
     law laws: { FieldLaws ops };
 
-    // Q, for generic code: a clause cannot name the constant of a type parameter.
+    // Q, for generic code: a clause cannot name the constant of a type parameter. Implementations return `Self::Q`.
     fn size() -> u16
         ensures { λ r. ⌜ r ≡ ops .q ⌝ };
 

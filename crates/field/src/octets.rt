@@ -30,7 +30,8 @@ static POWERS: [u8; 510] = [
     22, 44, 88, 176, 125, 250, 233, 207, 131, 27, 54, 108, 216, 173, 71, 142,
 ];
 
-// POWERS[LOGS[a]] is a, for each code a from 1 to 255. Zero has no logarithm: place 0 holds a number that is not used.
+// POWERS[LOGS[a]] is a, for each code a from 1 to 255. Zero has no logarithm: place 0 holds a number below 255 on which
+// no result depends.
 #[rattlefmt::skip]
 static LOGS: [u8; 256] = [
     0, 0, 1, 25, 2, 50, 26, 198, 3, 223, 51, 238, 27, 104, 199, 75, 4, 100, 224, 14, 52, 141, 239, 129, 28, 193,

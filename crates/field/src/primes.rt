@@ -4,8 +4,8 @@ ghost use mathlib.Core.Path.{_≡_};
 ghost use Rattle.field.specs.Modulo.{modulo};
 use crate::fields::Field;
 
-// The inverse of a number from 1 to 65520, by Euclid's algorithm on the modulus and the number. Modulo 65521, the number times
-// `to_low` is `low`, and the number times `to_high` is `high` with the other sign.
+// The inverse of a number from 1 to 65520, by Euclid's algorithm on 65521 and the number. Modulo 65521, the number
+// times `to_low` is `low`, and the number times `to_high` is `high` with the other sign.
 fn invert(a: u32) -> u32
     requires { ⌜ 0 < a ⌝ ∗ ⌜ a < 65521 ⌝ }
     ensures code { λ r. ⌜ r < 65521 ⌝ }

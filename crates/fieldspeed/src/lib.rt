@@ -1,4 +1,4 @@
-//! A field's operations over whole slices, with C's calling convention: what a benchmark in another language links.
+//! Products and inverses in both fields over whole slices, with C's calling convention: what a benchmark links.
 ghost use Rattle.field.specs.Modulo.{modulo};
 ghost use Rattle.field.specs.Octets.{octets};
 ghost use Rattle.fieldspeed.specs.Slices.{Products, Inverses};

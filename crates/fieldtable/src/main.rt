@@ -1,5 +1,5 @@
-//! Writes what the operations of both fields give: for pairs of words every operation, then all products and inverses of
-//! the octets. Another implementation's output is stored beside it.
+//! Writes what the operations of both fields give: for pairs of words every operation, then all products and
+//! inverses of the octets. The output of another implementation is stored beside it.
 use field::fields::Field;
 use field::octets::OctetField;
 use field::octets::Octets;
@@ -42,8 +42,8 @@ fn put_inverse<F: Field>(text: &mut String, a: u16) -> fmt::Result {
 fn put_operations<F: Field>(text: &mut String, letter: char, a: u16, b: u16) -> fmt::Result {
     let sum = F::plus(a, b);
     let product = F::times(a, b);
-    let opposite = F::negative(a);
-    write!(text, "{letter},{a},{b},{sum},{product},{opposite}")?;
+    let negative = F::negative(a);
+    write!(text, "{letter},{a},{b},{sum},{product},{negative}")?;
     put_inverse::<F>(text, a)?;
     text.write_char('\n')
 }
@@ -62,17 +62,17 @@ fn put_edges(text: &mut String) -> fmt::Result {
     Ok(())
 }
 
-// The word after another in a sequence that meets every word once.
-fn word_after(word: u16) -> u16 {
-    ((u32::from(word) * 25173 + 13849) % 65536) as u16
+// The state after another of a generator of 32 bits; the upper half of a state is a word.
+fn state_after(state: u32) -> u32 {
+    state.wrapping_mul(1664525).wrapping_add(1013904223)
 }
 
 fn put_sequence(text: &mut String, pairs: u32) -> fmt::Result {
-    let mut a = 1;
+    let mut state = 1;
     for _ in 0..pairs {
-        let b = word_after(a);
-        put_pair(text, a, b)?;
-        a = word_after(b);
+        let first = state_after(state);
+        state = state_after(first);
+        put_pair(text, (first >> 16) as u16, (state >> 16) as u16)?;
     }
     Ok(())
 }

@@ -1,4 +1,4 @@
--- Values worked out by hand, as statements of the definitions. Assumes nothing.
+-- Known values, as statements of the definitions. Assumes nothing.
 use mathlib.Core.Path.{_≡_}
 use Rattle.std.specs.declared.option.Option.the-variants.{Some}
 use Rattle.field.specs.Operations.{reciprocal}

@@ -1,4 +1,5 @@
-//! Worked examples, as tests of the crates below. It is a crate of its own, so that they are not proved twice.
+//! Worked examples, as tests of the crates below, with a third field for them; and worked facts of the definitions.
+//! It is a crate of its own, so that the crates below are not proved twice.
 pub mod facts;
 pub mod sevens;
 
@@ -120,16 +121,16 @@ mod tests {
         check(whole.as_slice() == out.as_slice())
     }
 
-    // Each value stands in the arguments in the order of the calls: plus, negative, times, inverse.
+    // The values wanted, in the order of the calls.
     fn fields_work<F: Field>(
         sum: u16,
-        opposite: u16,
+        negative: u16,
         product: u16,
         reciprocal: Option<u16>,
     ) -> Result<(), Fail> {
         laws_hold::<F>();
         check_eq(F::plus(200, 60000), sum)?;
-        check_eq(F::negative(60000), opposite)?;
+        check_eq(F::negative(60000), negative)?;
         check_eq(F::times(200, 60000), product)?;
         check_eq(F::inverse(60000), reciprocal)?;
         check_eq(F::inverse(F::size()), None)?;
