@@ -1,10 +1,14 @@
 -- Euclid's algorithm on a prime and a number below it, with a multiplier for each remainder. Assumes nothing.
 use mathlib.Core.Path.{_≡_, sym, ap, _∙_}
-use Prim.Native.Nat.{ℕ, _+_, _-_, _*_, _/_, _%_, _<_, _≤_}
+use mathlib.Core.Logic.{inl, inr}
+use Prim.Native.Nat.{ℕ, zero, suc, _+_, _-_, _*_, _/_, _%_, _<_, _≤_}
 use native.Mathlib.Omega.{arith}
-use native.Mathlib.Nat.{mul-comm, mul-assoc, mul-left-comm, mul-add, add-mul, mul-sub, mul-mod-left, mod-lt, mod-eq-of-lt, div-add-mod, add-mul-mod-self-right, le-mul-of-pos-right}
+use native.Mathlib.Nat.{mul-comm, mul-assoc, mul-left-comm, mul-add, add-mul, mul-sub, mul-mod-left, mod-lt, mod-eq-of-lt, div-add-mod, add-mul-mod-self-right, le-mul-of-pos-right, eq-or-lt-of-le}
 use Rattle.std.proofs.shelf.Bits.{mul-le}
-use Rattle.field.proofs.Residues.{Undivided}
+
+-- no number between 1 and n divides n
+abbrev pub Undivided : ℕ → Type 0
+Undivided n = (d : ℕ) → 1 < d → d < n → n % d ≡ 0 → ⊥
 
 -- what the remainders and their multipliers keep: a · toLow = low and a · toHigh = - high modulo n
 pub record Multipliers (n a high low toHigh toLow : ℕ) : Type 0 where
@@ -151,3 +155,22 @@ module _ {n a high low toHigh toLow : ℕ} (prime : Undivided n) (H : Half n a h
 
   pub next-most : toLow + low / high * toHigh ≤ n
   next-most = to-low-most (lower-low (H .multipliers)) (H .high-some)
+
+-- the turns end at an inverse
+module _ {n a : ℕ} (two : 1 < n) (prime : Undivided n) where
+  pub inverted : (fuel : ℕ) {high low toHigh toLow : ℕ} → low < fuel → Turn n a high low toHigh toLow → (b : ℕ) × ((a * b) % n ≡ 1)
+  inverted zero h T = absurd (omega arith)
+  inverted (suc fuel) {high = high} {low = low} {toHigh = toHigh} {toLow = toLow} h T =
+      elim (eq-or-lt-of-le (T .low-some)) [
+        | inl one ↦ (toLow, low-inverts (T .multipliers) two (sym one))
+        | inr big ↦
+            let middle = half prime T big in
+            elim (eq-or-lt-of-le (middle .high-some)) [
+              | inl one ↦ (n - (toHigh + high / low * toLow), high-inverts (middle .multipliers) two (middle .most) (sym one))
+              | inr on ↦
+                  let later = next prime middle on in
+                  let less = middle .high-less in
+                  let below = later .low-less in
+                  inverted fuel (omega arith) later
+            ]
+      ]

@@ -164,9 +164,6 @@ module _ (F : Lawful) where
   pub inverse-code : (a : ℕ) → inverse (F .ops) a < F .ops .q
   inverse-code a = let h = F .two-codes in found.inverse-code (F .ops) a (omega arith)
 
-  pub times-inverse : (a : ℕ) → (a % F .ops .q ≡ 0 → ⊥) → F .ops .times a (inverse (F .ops) a) ≡ 1
-  times-inverse = F .times-inverse
-
   -- a number and its inverse fall out of a product
   pub inverse-times-times : (a b : ℕ) → (a % F .ops .q ≡ 0 → ⊥) → F .ops .times (inverse (F .ops) a) (F .ops .times a b) ≡ b % F .ops .q
   inverse-times-times a b some =

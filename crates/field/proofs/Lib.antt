@@ -2,8 +2,8 @@ pub mod Reciprocals
 pub mod LawsForAll
 pub mod FieldLemmas
 pub mod Tested
+pub mod Euclid
 pub mod Residues
-mod Euclid
 mod Linear
 mod OctetProducts
 mod Division

@@ -1,5 +1,5 @@
 -- The octets are a field. Assumes nothing.
-use mathlib.Core.Path.{_≡_, sym, ap, _∙_}
+use mathlib.Core.Path.{sym, ap, _∙_}
 use Prim.Native.Nat.{ℕ, _-_, _%_, _<_}
 use native.Mathlib.Omega.{arith}
 use native.Mathlib.Nat.{mod-mod, mod-eq-of-lt}
@@ -16,9 +16,6 @@ use Rattle.field.proofs.OctetPowers.{power-code, log-of, times-completion}
 xor-code : (a b : ℕ) → bitXor (a % 256) (b % 256) < 256
 xor-code a b = xor-lt 8 (a % 256) (b % 256) (code a) (code b)
 
-own : (a : ℕ) → a < 256 → a % 256 ≡ a
-own a h = mod-eq-of-lt h
-
 pub octet-laws : FieldLaws octets
 octet-laws =
     record {
@@ -32,16 +29,16 @@ octet-laws =
       times-code = times-code;
       plus-comm = λ a b _ _. xor-comm (a % 256) (b % 256);
       plus-assoc = λ a b c _ _ _.
-          ap (λ x. bitXor x (c % 256)) (own (bitXor (a % 256) (b % 256)) (xor-code a b))
+          ap (λ x. bitXor x (c % 256)) (mod-eq-of-lt (xor-code a b))
           ∙ xor-assoc (a % 256) (b % 256) (c % 256)
-          ∙ ap (λ x. bitXor (a % 256) x) (sym (own (bitXor (b % 256) (c % 256)) (xor-code b c)));
+          ∙ ap (λ x. bitXor (a % 256) x) (sym (mod-eq-of-lt (xor-code b c)));
       times-comm = times-comm;
       times-assoc = times-assoc;
       times-plus = λ a b c _ hb hc.
           linear.times-right a (b % 256) (c % 256)
-          ∙ ap (λ x. bitXor x (octetTimes a (c % 256))) (ap (octetTimes a) (own b hb) ∙ sym (own (octetTimes a b) (times-code a b)))
-          ∙ ap (λ x. bitXor (octetTimes a b % 256) x) (ap (octetTimes a) (own c hc) ∙ sym (own (octetTimes a c) (times-code a c)));
-      plus-zero = λ a h. xor-zero-r (a % 256) ∙ own a h;
+          ∙ ap (λ x. bitXor x (octetTimes a (c % 256))) (ap (octetTimes a) (mod-eq-of-lt hb) ∙ sym (mod-eq-of-lt (times-code a b)))
+          ∙ ap (λ x. bitXor (octetTimes a b % 256) x) (ap (octetTimes a) (mod-eq-of-lt hc) ∙ sym (mod-eq-of-lt (times-code a c)));
+      plus-zero = λ a h. xor-zero-r (a % 256) ∙ mod-eq-of-lt h;
       times-one = times-one;
       plus-negative = λ a h. ap (λ x. bitXor (a % 256) x) (mod-mod a 256) ∙ xor-self (a % 256);
       times-inverse = λ a h some.

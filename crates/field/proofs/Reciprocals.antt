@@ -12,9 +12,6 @@ use Rattle.std.specs.declared.option.Option.{Option}
 use Rattle.std.specs.declared.option.Option.the-variants.{Some, None}
 use Rattle.field.specs.Operations.{Operations, firstFrom, reciprocal, inverse}
 
-some-none : (b : ℕ) → _≡_ {A = Option ℕ} (Some b) None → ⊥
-some-none b e = let z : _≡_ {A = ℕ} 0 1 = cc in omega arith
-
 -- where a search ends with a number, that number passes, and is one of those searched
 found : (test : ℕ → Bool) (count from b : ℕ) → firstFrom test count from ≡ Some b → (test b ≡ true) × (b < from + count)
 unfolding firstFrom
@@ -33,7 +30,7 @@ unfolding firstFrom
 missed test zero from b e l h p = omega arith
 missed test (suc count) from b e l h p =
     (elim (test from) as (λ t. test from ≡ t → _≡_ {A = Option ℕ} (elim t [ true ↦ Some from | false ↦ firstFrom test count (suc from) ]) None → ⊥) [
-      | true ↦ λ f e. some-none from e
+      | true ↦ λ f e. let z : _≡_ {A = ℕ} 0 1 = cc in omega arith
       | false ↦ λ f e.
           elim (eq-or-lt-of-le l) [
             | inl same ↦ let z : true ≡ false = sym p ∙ ap test (sym same) ∙ f in let z : _≡_ {A = ℕ} 0 1 = cc in omega arith

@@ -1,10 +1,9 @@
 -- The integers modulo a prime are a field. Assumes nothing.
 use mathlib.Core.Path.{_≡_, refl, sym, ap, _∙_}
 use mathlib.Core.Bool.{Bool, true, false, not}
-use mathlib.Core.Logic.{inl, inr}
-use Prim.Native.Nat.{ℕ, zero, suc, _+_, _-_, _*_, _/_, _%_, _<_, _≤_}
+use Prim.Native.Nat.{ℕ, suc, _+_, _-_, _*_, _/_, _%_, _<_, _≤_}
 use native.Mathlib.Omega.{arith}
-use native.Mathlib.Nat.{add-zero, add-comm, add-assoc, mul-one, mul-comm, mul-assoc, mul-add, add-mul, mul-sub, le-mul-of-pos-right, mul-mod-left, mod-lt, mod-self, mod-mod, mod-eq-of-lt, add-mod, mod-add-mod, add-mod-mod, div-add-mod, mul-add-mod-self-left, eq-or-lt-of-le}
+use native.Mathlib.Nat.{add-zero, add-comm, add-assoc, mul-one, mul-comm, mul-assoc, mul-add, add-mul, mul-mod-left, mod-lt, mod-self, mod-mod, mod-eq-of-lt, add-mod, mod-add-mod, add-mod-mod, div-add-mod, mul-add-mod-self-left}
 use lib.Dec.{eqb, ltb, lit<, lit≤}
 use Rattle.std.proofs.shelf.Bits.{mul-le}
 use borrow.Author.Tests.{eq-eqb, ltb-true, ltb-false}
@@ -13,10 +12,7 @@ use Rattle.field.specs.Modulo.{modulo}
 use Rattle.field.proofs.Reciprocals.{inverse-works}
 use Rattle.field.proofs.LawsForAll.{lawful}
 use Rattle.field.proofs.Tested.{allBelow, all-below}
-
--- no number between 1 and n divides n
-abbrev pub Undivided : ℕ → Type 0
-Undivided n = (d : ℕ) → 1 < d → d < n → n % d ≡ 0 → ⊥
+use Rattle.field.proofs.Euclid.{Undivided, start, inverted}
 
 module _ (n : ℕ) where
   mul-mod-l : (a b : ℕ) → (a % n * b) % n ≡ (a * b) % n
@@ -28,37 +24,6 @@ module _ (n : ℕ) where
 
   mul-mod-r : (a b : ℕ) → (a * (b % n)) % n ≡ (a * b) % n
   mul-mod-r a b = ap (λ x. x % n) (mul-comm a (b % n)) ∙ mul-mod-l b a ∙ ap (λ x. x % n) (mul-comm b a)
-
-  -- a number times what completes n's quotient by it leaves n's remainder by it
-  completes : (a : ℕ) → 0 < a → (a * (n - n / a)) % n ≡ (n % a) % n
-  completes a h =
-      let whole = div-add-mod n a in
-      let more = le-mul-of-pos-right n h in
-      let apart = mul-sub a n (n / a) in
-      let less = mul-sub n a 1 in
-      let same = mul-comm a n in
-      let own = mul-one n in
-      let e : a * (n - n / a) ≡ n * (a - 1) + n % a = omega arith in
-      ap (λ x. x % n) e ∙ mul-add-mod-self-left n (a - 1) (n % a)
-
-  -- every number between 0 and n has an inverse modulo n
-  inverted : Undivided n → (fuel a : ℕ) → a < fuel → 0 < a → a < n → (b : ℕ) × ((a * b) % n ≡ 1)
-  inverted prime zero a h some small = absurd (omega arith)
-  inverted prime (suc fuel) a h some small =
-      elim (eq-or-lt-of-le some) [
-        | inl same ↦ (1, ap (λ x. x % n) (mul-one a ∙ sym same) ∙ mod-eq-of-lt (omega arith))
-        | inr big ↦
-            let less : n % a < a = mod-lt n some in
-            let left : n % a ≡ 0 → ⊥ = prime a big small in
-            let later = inverted prime fuel (n % a) (omega arith) (omega arith) (omega arith) in (
-              (n - n / a) * later .0,
-              ap (λ x. x % n) (sym (mul-assoc a (n - n / a) (later .0)))
-                  ∙ sym (mul-mod-l (a * (n - n / a)) (later .0))
-                  ∙ ap (λ x. (x * later .0) % n) (completes a some)
-                  ∙ mul-mod-l (n % a) (later .0)
-                  ∙ later .1,
-            )
-      ]
 
   pub modulo-laws : 1 < n → n ≤ 65521 → Undivided n → FieldLaws (modulo n)
   modulo-laws two most prime =
@@ -84,7 +49,7 @@ module _ (n : ℕ) where
             let e : a + (n - a % n) ≡ n = omega arith in
             add-mod-mod a (n - a % n) n ∙ ap (λ x. x % n) e ∙ mod-self n;
         times-inverse = λ a h some.
-            let b = inverted prime (suc a) a (omega arith) (omega arith) h in
+            let b = inverted two prime (suc a) (omega arith) (record { multipliers = start n a; low-some = omega arith; low-less = h; high-most = omega arith }) in
             inverse-works (modulo n) a (b .0 % n) (code (b .0)) (mul-mod-r a (b .0) ∙ b .1);
       }
 

@@ -129,6 +129,7 @@ mod tests {
         reciprocal: Option<u16>,
     ) -> Result<(), Fail> {
         laws_hold::<F>();
+        check_eq(F::Q, F::size())?;
         check_eq(F::plus(200, 60000), sum)?;
         check_eq(F::negative(60000), negative)?;
         check_eq(F::times(200, 60000), product)?;
