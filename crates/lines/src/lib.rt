@@ -1,4 +1,5 @@
 //! Lines: bytes cut into fields, and the line that carries a frame.
+#![tactic(auto)]
 pub mod answers;
 mod appending;
 pub mod fields;

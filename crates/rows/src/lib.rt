@@ -1,4 +1,5 @@
 //! Rows for reading, and the ledgers that keep them.
+#![tactic(auto)]
 pub mod caps;
 pub mod ledgers;
 pub mod reading;
