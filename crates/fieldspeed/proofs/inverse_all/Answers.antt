@@ -7,4 +7,4 @@ use Rattle.fieldspeed.proofs.inverse_all.Goals as goal
 
 pub loop-i-preserved : goal.loop-i-preserved
 unfolding inverse
-loop-i-preserved g c = more_filled (inverted g.F.Field.ops c.args.a.now) _ _ _ _ c.loop-i.invariant (omega arith) (c.unwrap-or.ensures ∙ ap (λ r. unwrap_or r 0) c.inverse.ensures)
+loop-i-preserved g c = more_filled (inverted g.F.Field.ops c.args.a.now) _ _ _ _ c.loop-i.invariant (omega arith) (c.unwrap_or.ensures ∙ ap (λ r. unwrap_or r 0) c.inverse.ensures)

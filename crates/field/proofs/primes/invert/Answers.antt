@@ -7,14 +7,14 @@ use Rattle.field.proofs.primes.invert.Goals as goal
 pub loop-low-init : goal.loop-low-init
 loop-low-init c = record { multipliers = start 65521 c.args.a; low_some = c.requires.0; low_less = c.requires.1; high_most = omega arith }
 
-pub overflow-mul-to-high : goal.overflow-mul-to-high
-overflow-mul-to-high c = omega (arith, (half undivided c.loop-low.invariant c.loop-low-test.true).most)
+pub overflow_mul-to_high : goal.overflow_mul-to_high
+overflow_mul-to_high c = omega (arith, (half undivided c.loop-low.invariant c.loop-low-test.true).most)
 
-pub overflow-add-to-high : goal.overflow-add-to-high
-overflow-add-to-high c = omega (arith, (half undivided c.loop-low.invariant c.loop-low-test.true).most)
+pub overflow_add-to_high : goal.overflow_add-to_high
+overflow_add-to_high c = omega (arith, (half undivided c.loop-low.invariant c.loop-low-test.true).most)
 
-pub overflow-sub-result : goal.overflow-sub-result
-overflow-sub-result c = (half undivided c.loop-low.invariant c.loop-low-test.true).most
+pub overflow_sub-result : goal.overflow_sub-result
+overflow_sub-result c = (half undivided c.loop-low.invariant c.loop-low-test.true).most
 
 pub returns-then-high-eq1 : goal.returns-then-high-eq1
 returns-then-high-eq1 c =
@@ -24,20 +24,20 @@ returns-then-high-eq1 c =
       inverts = high_inverts middle.multipliers (lit< tt) middle.most c.if-high-eq1.true;
     }
 
-pub nonzero-div-to-low : goal.nonzero-div-to-low
-nonzero-div-to-low c = (half undivided c.loop-low.invariant c.loop-low-test.true).high_some
+pub nonzero_div-to_low : goal.nonzero_div-to_low
+nonzero_div-to_low c = (half undivided c.loop-low.invariant c.loop-low-test.true).high_some
 
-pub nonzero-rem-low : goal.nonzero-rem-low
-nonzero-rem-low c = (half undivided c.loop-low.invariant c.loop-low-test.true).high_some
+pub nonzero_rem-low : goal.nonzero_rem-low
+nonzero_rem-low c = (half undivided c.loop-low.invariant c.loop-low-test.true).high_some
 
 more : (c : goal.Else-high-eq1) → 1 < c.loop-low.high % c.loop-low.low
 more c = let some = (half undivided c.loop-low.invariant c.loop-low-test.true).high_some in omega arith
 
-pub overflow-mul-to-low : goal.overflow-mul-to-low
-overflow-mul-to-low c = omega (arith, next_most undivided (half undivided c.loop-low.invariant c.loop-low-test.true) (more c))
+pub overflow_mul-to_low : goal.overflow_mul-to_low
+overflow_mul-to_low c = omega (arith, next_most undivided (half undivided c.loop-low.invariant c.loop-low-test.true) (more c))
 
-pub overflow-add-to-low : goal.overflow-add-to-low
-overflow-add-to-low c = omega (arith, next_most undivided (half undivided c.loop-low.invariant c.loop-low-test.true) (more c))
+pub overflow_add-to_low : goal.overflow_add-to_low
+overflow_add-to_low c = omega (arith, next_most undivided (half undivided c.loop-low.invariant c.loop-low-test.true) (more c))
 
 pub loop-low-preserved : goal.loop-low-preserved
 loop-low-preserved c = next undivided (half undivided c.loop-low.invariant c.loop-low-test.true) (more c)

@@ -17,8 +17,8 @@ returns-then-a-eq0 c =
 
 pub returns : goal.returns
 returns c =
-    c.power-at.ensures
-    ∙ sym (times_power c.log-at.result c.log-at-2.result)
-    ∙ ap (λ x. octet_times x (power c.log-at-2.result)) (c.log-at.ensures.powers (omega arith))
-    ∙ ap (λ x. octet_times (c.args.a % 256) x) (c.log-at-2.ensures.powers (omega arith))
+    c.power_at.ensures
+    ∙ sym (times_power c.log_at.result c.log_at-2.result)
+    ∙ ap (λ x. octet_times x (power c.log_at-2.result)) (c.log_at.ensures.powers (omega arith))
+    ∙ ap (λ x. octet_times (c.args.a % 256) x) (c.log_at-2.ensures.powers (omega arith))
     ∙ sym (times_reads c.args.a c.args.b)

@@ -9,8 +9,8 @@ returns-in-err-row c =
     let answer = c.in-err-row.ensures ∙ table_answer c.args.self.now c.number.result 96 c.args.frame.now c.number.ensures in
     rw (p.1, p.2) record { answer = answer; after = refl; kept = refl }
 
-pub invariant-of-self : goal.invariant-of-self
-invariant-of-self c =
+pub invariant_of-self : goal.invariant_of-self
+invariant_of-self c =
     let t = c.args.self.now in
     let f = c.args.frame.now in
     let row = c.in-ok-row.row in
