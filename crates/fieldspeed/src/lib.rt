@@ -1,5 +1,6 @@
 //! Products and inverses in both fields over whole slices, with C's calling convention: what a benchmark links.
 #![tactic(auto)]
+
 ghost use Rattle.field.specs.Modulo.{modulo};
 ghost use Rattle.field.specs.Octets.{octets};
 ghost use Rattle.fieldspeed.specs.Slices.{Products, Inverses};
