@@ -1,6 +1,7 @@
 //! Writes what the operations of both fields give: for pairs of words every operation, then all products and
 //! inverses of the octets. The output of another implementation is stored beside it.
 #![tactic(auto)]
+
 use field::fields::Field;
 use field::octets::Octets;
 use field::primes::Prime;

@@ -1,5 +1,6 @@
 //! Frames: up to sixteen weighted minutes and their sum, and the refusals that every layer speaks.
 #![tactic(auto)]
+
 pub mod buffers;
 pub mod checks;
 pub mod frames;

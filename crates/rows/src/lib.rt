@@ -1,5 +1,6 @@
 //! Rows for reading, and the ledgers that keep them.
 #![tactic(auto)]
+
 pub mod caps;
 pub mod ledgers;
 pub mod reading;

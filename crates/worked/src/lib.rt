@@ -1,6 +1,7 @@
 //! Worked examples, as tests of the crates below, with a third field for them; and worked facts of the definitions.
 //! It is a crate of its own, so that the crates below are not proved twice.
 #![tactic(auto)]
+
 pub mod facts;
 pub mod sevens;
 

@@ -5,5 +5,5 @@ use Rattle.frame.proofs.buffers.calls.padded.Goals as goal
 
 pub returns : goal.returns
 returns c =
-    let copied = c.copy-from-slice.ensures.after in
-    record { room = search (rules, overwrites); front = take_at c.copy-from-slice.new.self _ _ (ap length copied) ∙ copied }
+    let copied = c.copy_from_slice.ensures.after in
+    record { room = search (rules, overwrites); front = take_at c.copy_from_slice.new.self _ _ (ap length copied) ∙ copied }
