@@ -16,7 +16,7 @@ const EDGES: [u16; 19] = [
 
 fn put_inverse<F: Field>(text: &mut String, a: u16) -> fmt::Result {
     match F::inverse(a) {
-        Some(b) => write!(text, ",{b}"),
+        Some(b) => Ok(write!(text, ",{b}")?),
         None => text.write_str(",none"),
     }
 }

@@ -1,5 +1,6 @@
 //! Answers each line of a log of frames on standard input: the frame's line again, or its refusal.
 #![tactic(auto)]
+
 use framelog::logs::LogCheck;
 use std::io;
 use std::io::Read;

@@ -1,5 +1,6 @@
 //! Lines: bytes cut into fields, and the line that carries a frame.
 #![tactic(auto)]
+
 pub mod answers;
 mod appending;
 pub mod fields;

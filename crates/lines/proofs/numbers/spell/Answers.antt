@@ -5,8 +5,8 @@ use Rattle.lines.proofs.numbers.spell.Goals as goal
 pub loop-left-init : goal.loop-left-init
 loop-left-init c = spelling_none _ _ c.ranges.n.fits c.requires
 
-pub overflow-sub-at : goal.overflow-sub-at
-overflow-sub-at c = room_more _ _ _ _ c.ranges.n.fits c.loop-left.invariant c.loop-left-test.true
+pub overflow_sub-at : goal.overflow_sub-at
+overflow_sub-at c = room_more _ _ _ _ c.ranges.n.fits c.loop-left.invariant c.loop-left-test.true
 
 pub loop-left-preserved : goal.loop-left-preserved
 loop-left-preserved c = spelling_more _ _ _ _ c.ranges.n.fits c.loop-left.invariant c.loop-left-test.true

@@ -6,8 +6,8 @@ use Rattle.lines.specs.Writing.{terms_text}
 use Rattle.lines.proofs.Appends.{puts_more, room_for, left_after, term_next}
 use Rattle.lines.proofs.writing.put_terms.Goals as goal
 
-pub put-field-requires : goal.put-field-requires
-put-field-requires c =
+pub put_field-requires : goal.put_field-requires
+put_field-requires c =
     let so = c.loop-term.invariant in
     let ts = c.args.terms.now in
     let i = c.loop-term.term-index in
@@ -15,8 +15,8 @@ put-field-requires c =
     room_for _ _ so.0 (44 ∷ decimal (minute_at ts i)) rest (terms_text ts) c.requires so.1
     (ap (λ l. so.0 ++ l) (sym (term_next ts i c.loop-term-test.true)) ∙ so.2)
 
-pub put-field-requires-in-loop-term : goal.put-field-requires-in-loop-term
-put-field-requires-in-loop-term c =
+pub put_field-requires-in-loop-term : goal.put_field-requires-in-loop-term
+put_field-requires-in-loop-term c =
     let so = c.loop-term.invariant in
     let ts = c.args.terms.now in
     let i = c.loop-term.term-index in
@@ -24,7 +24,7 @@ put-field-requires-in-loop-term c =
     let rest = terms_text (drop (i + 1) ts) in
     let is = ap (λ l. so.0 ++ l) (sym (term_next ts i c.loop-term-test.true)) ∙ so.2 in
     room_for _ _ (so.0 ++ 44 ∷ decimal (minute_at ts i)) weight rest (terms_text ts) c.requires
-    (puts_more _ _ _ _ _ so.1 c.put-field.ensures)
+    (puts_more _ _ _ _ _ so.1 c.put_field.ensures)
     (left_after _ _ so.0 (44 ∷ decimal (minute_at ts i)) (weight ++ rest) (terms_text ts) c.requires so.1 is)
 
 pub loop-term-preserved : goal.loop-term-preserved
@@ -36,9 +36,9 @@ loop-term-preserved c =
     let weight = 44 ∷ decimal (weight_at ts i) in
     let rest = terms_text (drop (i + 1) ts) in
     let is = ap (λ l. so.0 ++ l) (sym (term_next ts i c.loop-term-test.true)) ∙ so.2 in
-    let put = puts_more _ _ _ so.0 minute so.1 c.put-field.ensures in
+    let put = puts_more _ _ _ so.0 minute so.1 c.put_field.ensures in
     let more = left_after _ _ so.0 minute (weight ++ rest) (terms_text ts) c.requires so.1 is in
-    ((so.0 ++ minute) ++ weight, puts_more _ _ _ (so.0 ++ minute) weight put c.put-field-in-loop-term.ensures, left_after _ _ (so.0 ++ minute) weight rest (terms_text ts) c.requires put more)
+    ((so.0 ++ minute) ++ weight, puts_more _ _ _ (so.0 ++ minute) weight put c.put_field-in-loop-term.ensures, left_after _ _ (so.0 ++ minute) weight rest (terms_text ts) c.requires put more)
 
 pub returns : goal.returns
 returns c =

@@ -6,7 +6,7 @@ use Rattle.framelog.proofs.buffers.LineBuffer.extend.Goals as goal
 pub returns : goal.returns
 returns c =
     let b = c.args.self.now in
-    extended b.bytes c.args.part.now c.copy-from-slice.new.self b.len c.min-count.result _ b.room b.fits c.min-count.ensures c.copy-from-slice.ensures.after
+    extended b.bytes c.args.part.now c.copy_from_slice.new.self b.len c.min-count.result _ b.room b.fits c.min-count.ensures c.copy_from_slice.ensures.after
 
-pub invariant-of-self : goal.invariant-of-self
-invariant-of-self c = (search (rules, overwrites), (omega (arith, c.min-count.ensures, c.args.self.now.fits), tt))
+pub invariant_of-self : goal.invariant_of-self
+invariant_of-self c = record { room = search (rules, overwrites); fits = omega (arith, c.min-count.ensures, c.args.self.now.fits) }

@@ -3,12 +3,12 @@ use Rattle.std.proofs.lemmas.Result.{err_from_is_err_and}
 use Rattle.framelog.proofs.Inputs.{keeps_part, keeps_line}
 use Rattle.framelog.proofs.logs.LogCheck.end_line.Goals as goal
 
-pub returns-in-err-answer : goal.returns-in-err-answer
-returns-in-err-answer c =
-    let p = err_from_is_err_and c.from-residual.result c.from-residual.ensures.1 in
-    let none = c.in-err-answer.ensures.value in
+pub returns-in_err-answer : goal.returns-in_err-answer
+returns-in_err-answer c =
+    let p = err_from_is_err_and c.from_residual.result c.from_residual.ensures.1 in
+    let none = c.in_err-answer.ensures.value in
     rw p.1 (keeps_part _ _ _ c.args.part.now c.requires c.extend.ensures, none.0, none.1)
 
 pub returns : goal.returns
 returns c =
-    keeps_line _ _ _ _ c.args.part.now c.text.result.now c.requires c.clear.ensures (c.text.ensures ∙ c.extend.ensures) c.in-ok-answer.ensures.value
+    keeps_line _ _ _ _ c.args.part.now c.text.result.now c.requires c.clear.ensures (c.text.ensures ∙ c.extend.ensures) c.in_ok-answer.ensures.value
