@@ -79,7 +79,7 @@ mod tests {
         assert!(rt; frame.term(2).is_none());
         let mut line = Vec::new(rt.alloc());
         write_frame(&mut line, &frame)?;
-        assert!(rt; line.as_slice() == b"F,12,0,1,1,2");
+        assert!(rt; line.as_slice() == b"F,12,0,1,1,2".as_slice());
         Ok(())
     }
 
@@ -92,11 +92,11 @@ mod tests {
     #[test]
     fn lines_are_answered(rt: HostRuntime) -> Result<(), Fail> {
         let heap = rt.alloc();
-        assert!(rt; answered(heap, b"F,5,0,1")?.as_slice() == b"F,5,0,1\n");
-        assert!(rt; answered(heap, b"S")?.as_slice() == b"?,refused,line,13,0\n");
-        assert!(rt; answered(heap, b"F,5,0")?.as_slice() == b"F,refused,line,14,0\n");
-        assert!(rt; answered(heap, b"F,5,0,x")?.as_slice() == b"F,refused,line,15,6\n");
-        assert!(rt; answered(heap, b"F,5")?.as_slice() == b"F,refused,frame,10,0\n");
+        assert!(rt; answered(heap, b"F,5,0,1")?.as_slice() == b"F,5,0,1\n".as_slice());
+        assert!(rt; answered(heap, b"S")?.as_slice() == b"?,refused,line,13,0\n".as_slice());
+        assert!(rt; answered(heap, b"F,5,0")?.as_slice() == b"F,refused,line,14,0\n".as_slice());
+        assert!(rt; answered(heap, b"F,5,0,x")?.as_slice() == b"F,refused,line,15,6\n".as_slice());
+        assert!(rt; answered(heap, b"F,5")?.as_slice() == b"F,refused,frame,10,0\n".as_slice());
         Ok(())
     }
 
@@ -107,7 +107,7 @@ mod tests {
         check_of_log.feed(&mut out, b"F,5,0")?;
         check_of_log.feed(&mut out, b",1\n\nF,1,0,1")?;
         check_of_log.finish(&mut out)?;
-        assert!(rt; out.as_slice() == b"F,5,0,1\n?,refused,line,13,0\nF,1,0,1\n");
+        assert!(rt; out.as_slice() == b"F,5,0,1\n?,refused,line,13,0\nF,1,0,1\n".as_slice());
         let mut whole = Vec::new(rt.alloc());
         check_log(&mut whole, b"F,5,0,1\n\nF,1,0,1")?;
         assert!(rt; whole.as_slice() == out.as_slice());

@@ -22,5 +22,5 @@ returns-in-4 c = sym (inverts c.args.a 4 2 (omega arith) (lit< tt) refl)
 pub returns-in-5 : goal.returns-in-5
 returns-in-5 c = sym (inverts c.args.a 5 3 (omega arith) (lit< tt) refl)
 
-pub returns-in-default : goal.returns-in-default
-returns-in-default c = sym (inverts c.args.a 6 6 (omega arith) (lit< tt) refl)
+pub returns-in_default : goal.returns-in_default
+returns-in_default c = sym (inverts c.args.a 6 6 (omega arith) (lit< tt) refl)
