@@ -1,8 +1,8 @@
 -- What the reading calls tell. Assumes nothing.
-use Rattle.std.proofs.Common.{◌≡◌, ℕ, zero, suc, ◌+◌, ◌<◌, ◌≤◌, List, [], ◌∷◌, length, get_or, drop, Some, None, Option, sym, refl, ap, ◌∙◌, add-one, arith}
+use Rattle.std.proofs.Common.{◌≡◌, ℕ, zero, suc, ◌+◌, ◌<◌, ◌≤◌, List, [], ◌∷◌, length, get_or, drop, Some, None, refl, add-one, arith}
 use Rattle.std.specs.List.{slice_get}
 use Rattle.frame.proofs.Apart.{some_none, none_some}
-use Rattle.rows.specs.Systems.{Row, System, empty_row, row_at, count_in, sum_in, term_count_of, term_of, sum_of_row}
+use Rattle.rows.specs.Systems.{Row, System, empty_row, row_at, term_in, term_of}
 
 -- a place of a list
 pub nth_some : {X : Type 0} (xs : List X) (k : ℕ) (x : X) → Some x ≡ slice_get xs k → (k < length xs) × (drop k xs ≡ x ∷ drop (k + 1) xs)
@@ -10,7 +10,7 @@ nth_some [] k x e = absurd (some_none x e)
 nth_some (y ∷ ys) zero x e = (omega arith, cc)
 nth_some (y ∷ ys) (suc k) x e =
     let p = nth_some ys k x e in
-    (omega arith, rw (add-one (suc k), ← add-one k) p.1)
+    (omega arith, rw (add-one (suc k)) (rw (add-one k) at p.1))
 
 pub nth_none : {X : Type 0} (xs : List X) (k : ℕ) → None ≡ slice_get xs k → length xs ≤ k
 nth_none [] k e = omega arith

@@ -1,29 +1,28 @@
 -- What a cap means, from what the ledger below it means. Assumes nothing.
 use Rattle.std.specs.Prelude.{◌≡◌, ℕ, zero, suc, min}
 use Rattle.rows.specs.declared.caps.Cap.{Cap}
-use Rattle.rows.specs.declared.reading.Rows as rows
-use Rattle.rows.specs.declared.ledgers.Ledger as ledger
+use Rattle.rows.specs.Systems.{System}
 
 -- the rows are those below
-abbrev pub cap_rows : {X : Type 0} → rows.Ghosts X → rows.Ghosts (Cap X)
-cap_rows R = record { system = λ cap. R.system cap.below }
+abbrev pub cap_system : {X : Type 0} → (X → System) → Cap X → System
+cap_system system cap = system cap.below
 
 -- the limit is the smaller one
-abbrev pub cap_ledger : {X : Type 0} → ledger.Ghosts X → ledger.Ghosts (Cap X)
-cap_ledger L = record { most = λ cap. min cap.own.number (L.most cap.below) }
+abbrev pub cap_limit : {X : Type 0} → (X → ℕ) → Cap X → ℕ
+cap_limit most cap = min cap.own.number (most cap.below)
 
 -- n caps over X
 abbrev pub Pile : ℕ → Type 0 → Type 0
 Pile zero X = X
 Pile (suc n) X = Cap (Pile n X)
 
-abbrev pub pile_rows : (X : Type 0) (n : ℕ) → rows.Ghosts X → rows.Ghosts (Pile n X)
-pile_rows X zero R = R
-pile_rows X (suc n) R = cap_rows (pile_rows X n R)
+abbrev pub pile_system : (X : Type 0) (n : ℕ) → (X → System) → Pile n X → System
+pile_system X zero system = system
+pile_system X (suc n) system = cap_system (pile_system X n system)
 
-abbrev pub pile_ledger : (X : Type 0) (n : ℕ) → ledger.Ghosts X → ledger.Ghosts (Pile n X)
-pile_ledger X zero L = L
-pile_ledger X (suc n) L = cap_ledger (pile_ledger X n L)
+abbrev pub pile_limit : (X : Type 0) (n : ℕ) → (X → ℕ) → Pile n X → ℕ
+pile_limit X zero most = most
+pile_limit X (suc n) most = cap_limit (pile_limit X n most)
 
 -- what a pile stands on
 abbrev pub base : (X : Type 0) (n : ℕ) → Pile n X → X
@@ -36,6 +35,6 @@ smallest X zero p k = k
 smallest X (suc n) p k = min p.own.number (smallest X n p.below k)
 
 -- a pile of caps means what it stands on, and its limit is the smallest there
-pub record PileLaw {X : Type 0} (R : rows.Ghosts X) (L : ledger.Ghosts X) : Type 0 where
-  pub meaning : (n : ℕ) (p : Pile n X) → (pile_rows X n R).system p ≡ R.system (base X n p)
-  pub limit : (n : ℕ) (p : Pile n X) → (pile_ledger X n L).most p ≡ smallest X n p (L.most (base X n p))
+pub record PileLaw {X : Type 0} (system : X → System) (most : X → ℕ) : Type 0 where
+  pub meaning : (n : ℕ) (p : Pile n X) → pile_system X n system p ≡ system (base X n p)
+  pub limit : (n : ℕ) (p : Pile n X) → pile_limit X n most p ≡ smallest X n p (most (base X n p))

@@ -1,6 +1,6 @@
 -- The rows of a table's slots. Assumes nothing.
-use Rattle.std.specs.Prelude.{◌≡◌, ℕ, ◌+◌, ◌<◌, ◌≤◌, List, [], ◌∷◌, ◌++◌, map, length, take, Some, None, Ok, nat_lt, slice_index_or, slice_set, refl}
-use Rattle.std.proofs.Common.{sym, ap, subst, ◌∙◌, inl, inr, arith, not-suc-le-zero}
+use Rattle.std.specs.Prelude.{◌≡◌, ℕ, ◌+◌, ◌<◌, ◌≤◌, List, [], ◌∷◌, ◌++◌, map, length, take, Some, None, Ok, nat_lt, slice_index_or, slice_set}
+use Rattle.std.proofs.Common.{sym, ap, subst, ◌∙◌, inl, inr, arith, lit≤, not-suc-le-zero}
 use Rattle.std.proofs.Math.Seq.{take-set-lt}
 use Rattle.std.specs.List.{slice_get}
 use Rattle.std.proofs.lemmas.List.{length-map, length-take-le, get_or_default, get_or-map, get_or-take, get_or-set_same, get_or-set_other, map-set, map_push, take_more_set}
@@ -15,8 +15,8 @@ use Rattle.frame.proofs.Fronts.{held_terms}
 use Rattle.rows.specs.declared.slots.Slot.{Slot}
 use Rattle.rows.specs.declared.slots.Slot.TheVariants.{Taken, Struck}
 use Rattle.rows.specs.declared.tables.Table.{Table}
-use Rattle.rows.specs.Systems.{Row, empty_row, WellFormedRow, WellFormed, row_at}
-use Rattle.rows.specs.Ledgers.{row_of, first_beyond, admitted, take_answer}
+use Rattle.rows.specs.Systems.{empty_row, WellFormedRow, WellFormed}
+use Rattle.rows.specs.Ledgers.{LimitInRange, row_of, first_beyond, admitted, take_answer}
 use Rattle.rows.specs.Slots.{slot_row}
 use Rattle.rows.specs.Tables.{system_of}
 use Rattle.rows.specs.Beyond.{taken_below, taken_room, taken_number}
@@ -71,6 +71,10 @@ table_formed t =
           let l : i < t.count = omega arith in
           subst (WellFormedRow t.width.number) (sym (slot_at t.count t.slots fits i l)) (slot_formed t.width.number (slice_index_or t.slots i Struck) (λ k. t.below i k l));
     }
+
+-- a table has room for 96 rows
+pub table_limited : (t : Table) → LimitInRange 96
+table_limited t = record { some = lit≤ tt; most = lit≤ tt }
 
 -- take's answer, by the number of slots counted
 pub table_answer : (t : Table) (m limit : ℕ) (f : Frame) → m ≡ t.width.number → admitted (first_beyond m 0 (terms_of f)) (nat_lt t.count limit) t.count ≡ take_answer (system_of t) limit (row_of f)

@@ -1,7 +1,7 @@
 //! A cap over a ledger.
 ghost use Rattle.std.specs.Prelude.{◌≡◌};
 ghost use Rattle.rows.specs.Ledgers.{row_of, take_answer, after_take};
-ghost use Rattle.rows.specs.Caps.{cap_rows, cap_ledger, PileLaw};
+ghost use Rattle.rows.specs.Caps.{cap_system, cap_limit, PileLaw};
 ghost use Rattle.std.proofs.Common.{rules};
 
 use crate::ledgers::{Ledger, first_beyond};
@@ -43,7 +43,7 @@ impl<L> Cap<L> {
 }
 
 impl<L: Ledger> Rows for Cap<L> {
-    ghost system = { (cap_rows L.Rows).system };
+    ghost system = { cap_system L.system };
 
     ghost formed = { Prim.search rules };
 
@@ -69,7 +69,7 @@ impl<L: Ledger> Rows for Cap<L> {
 }
 
 impl<L: Ledger> Ledger for Cap<L> {
-    ghost most = { (cap_ledger L.Ledger).most };
+    ghost most = { cap_limit L.most };
 
     ghost limited = { Prim.search rules };
 
@@ -101,14 +101,14 @@ pub fn take_into_pile<L: Ledger>(
     pile: &mut Cap<Cap<L>>,
     frame: &Frame<'_>,
 ) -> Result<usize, Refusal>
-    ensures answer { result ≡ take_answer ((cap_rows (cap_rows L.Rows)).system pile.old) ((cap_ledger (cap_ledger L.Ledger)).most pile.old) (row_of frame.now) }
-    ensures after { (cap_rows (cap_rows L.Rows)).system pile.new ≡ after_take result ((cap_rows (cap_rows L.Rows)).system pile.old) (row_of frame.now) }
-    ensures kept { (cap_ledger (cap_ledger L.Ledger)).most pile.new ≡ (cap_ledger (cap_ledger L.Ledger)).most pile.old }
+    ensures answer { result ≡ take_answer (cap_system (cap_system L.system) pile.old) (cap_limit (cap_limit L.most) pile.old) (row_of frame.now) }
+    ensures after { cap_system (cap_system L.system) pile.new ≡ after_take result (cap_system (cap_system L.system) pile.old) (row_of frame.now) }
+    ensures kept { cap_limit (cap_limit L.most) pile.new ≡ cap_limit (cap_limit L.most) pile.old }
 {
     pile.take(frame)
 }
 
 // However many caps are piled up: they mean what they stand on, and the smallest limit counts.
 pub fn piles_mean_their_base<L: Ledger>()
-    ensures { PileLaw L.Rows L.Ledger }
+    ensures { PileLaw L.system L.most }
 {}

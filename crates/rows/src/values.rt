@@ -24,6 +24,13 @@ pub fn entry<F: Field, R: Rows>(rows: &R, row: usize, minute: usize) -> Option<u
     Some(0)
 }
 
+// The code at a minute; 0 where x has none.
+fn code_at(x: &[u16], minute: u16) -> u16
+    ensures { result ≡ choice x.now minute }
+{
+    x.get(usize::from(minute)).copied().unwrap_or(0)
+}
+
 // A row's sum less its weights times the codes of x at their minutes, a code that x lacks counting as 0; none where there
 // is no such row. Each term is read once.
 pub fn row_value<F: Field, R: Rows>(rows: &R, row: usize, x: &[u16]) -> Option<u16>
@@ -35,7 +42,7 @@ pub fn row_value<F: Field, R: Rows>(rows: &R, row: usize, x: &[u16]) -> Option<u
     let mut total = 0;
     for number in 0..count {
         if let Some(term) = rows.term(row, number) {
-            let code = x.get(usize::from(term.minute)).copied().unwrap_or(0);
+            let code = code_at(x, term.minute);
             total = F::plus(total, F::times(term.weight, code));
         }
     }

@@ -1,8 +1,7 @@
 //! Making a table, reading it and changing it.
 ghost use Rattle.std.specs.Prelude.{◌≡◌, [], length};
 ghost use Rattle.rows.specs.Tables.{system_of};
-ghost use Rattle.rows.specs.SlotRows.{table_formed};
-ghost use Rattle.std.proofs.Common.{rules, arith};
+ghost use Rattle.rows.specs.SlotRows.{table_formed, table_limited};
 
 use super::{MOST_ROWS, Table};
 use crate::ledgers::{Ledger, admit};
@@ -74,7 +73,7 @@ impl Rows for Table {
 impl Ledger for Table {
     ghost most = { λ _. 96 };
 
-    ghost limited = { first_of (Prim.search rules, Prim.grind (arith, Self.row.coded.inj)) };
+    ghost limited = { table_limited };
 
     fn limit(&self) -> usize {
         MOST_ROWS

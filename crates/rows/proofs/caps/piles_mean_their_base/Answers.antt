@@ -1,6 +1,5 @@
-use Rattle.std.proofs.Common.{rules}
+use Rattle.rows.proofs.Piles.{pile_law}
 use Rattle.rows.proofs.caps.piles_mean_their_base.Goals as goal
 
--- src/caps.rt:107:1
 pub returns : goal.returns
-returns g c = ?
+returns g c = pile_law g.L.Rows.system g.L.Ledger.most

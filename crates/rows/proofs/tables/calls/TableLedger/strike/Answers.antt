@@ -1,7 +1,6 @@
-use Rattle.std.proofs.Common.{Ok, Err, sym, refl, ap, arith}
+use Rattle.std.proofs.Common.{Ok, Err, refl, ap, arith}
 use Rattle.frame.specs.declared.refusals.Refusal.TheVariants.{NoSuchRow}
 use Rattle.std.proofs.lemmas.Bool.{cond_below, cond_above}
-use Rattle.rows.specs.Tables.{system_of}
 use Rattle.rows.specs.SlotRows.{row_count, rows_struck, slots_fit}
 use Rattle.rows.proofs.tables.calls.TableLedger.strike.Goals as goal
 
