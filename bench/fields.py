@@ -2,8 +2,8 @@
 
     fields.py [LIBRARY]
 
-LIBRARY is the path of the static library; without it libfieldspeed.a is looked
-for under target, and the newest one found is taken. Builds bench/fields.rs
+LIBRARY is the path of the static library; without it the libfieldspeed.a is taken
+that `rt lib fieldspeed` makes under crates/. Builds bench/fields.rs
 against it in /tmp/field_bench, for a plain x86-64, and runs it. That program
 checks that both sides give the same codes, then times them in turn.
 
@@ -16,7 +16,6 @@ runs, lowest and highest. It needs rustc and cc.
 """
 
 import argparse
-import glob
 import os
 import re
 import statistics
@@ -32,11 +31,10 @@ LINE = re.compile(r"(.*): library ([0-9.]+) ns, plain Rust ([0-9.]+) ns, ratio "
 
 
 def find_library():
-    pattern = os.path.join(glob.escape(ROOT), "target", "**", "libfieldspeed.a")
-    found = glob.glob(pattern, recursive=True)
-    if not found:
-        sys.exit("no libfieldspeed.a under target: build it, or give its path")
-    return max(found, key=os.path.getmtime)
+    library = os.path.join(ROOT, "crates", "fieldspeed", "out", "libfieldspeed.a")
+    if not os.path.exists(library):
+        sys.exit("no %s: build it with rt lib, or give its path" % library)
+    return library
 
 
 def build(library, shift, rust_shift):

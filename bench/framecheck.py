@@ -4,8 +4,8 @@
 
 Makes about 10 MB of frame lines under /tmp (with --mixed one line in ten is
 damaged), builds bench/framecheck_baseline.rs there, checks that all programs
-give the same output, then times target/bin/framecheck and the baseline in
-turn. Without target/bin/framecheck only the baseline is timed.
+give the same output, then times crates/framecheck/out/framecheck and the baseline in
+turn. Without crates/framecheck/out/framecheck only the baseline is timed.
 """
 
 import argparse
@@ -17,7 +17,7 @@ import sys
 import time
 
 ROOT = os.path.dirname(os.path.dirname(os.path.abspath(__file__)))
-TARGET = os.path.join(ROOT, "target", "bin", "framecheck")
+TARGET = os.path.join(ROOT, "crates", "framecheck", "out", "framecheck")
 SECOND = os.path.join(ROOT, "second", "framecheck.py")
 SOURCE = os.path.join(ROOT, "bench", "framecheck_baseline.rs")
 FOLDER = "/tmp/framecheck_bench"
@@ -89,7 +89,7 @@ def main():
     if os.path.exists(TARGET):
         programs = {"framecheck": [TARGET], "baseline": [BASELINE]}
     else:
-        print("target/bin/framecheck is missing: only the baseline is run")
+        print("crates/framecheck/out/framecheck is missing: only the baseline is run")
 
     expected = output_of([sys.executable, SECOND], path)
     for name, command in programs.items():

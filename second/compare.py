@@ -1,6 +1,6 @@
 """Compares the built framecheck with second/framecheck.py on lines made at random.
 
-    compare.py [LINES [SEED]]    from the repository's root, once target/bin/framecheck is built
+    compare.py [LINES [SEED]]    from the repository's root, once crates/framecheck/out/framecheck is built
 
 A line is a frame's line, often with some bytes changed, removed, doubled or added, and now and then any bytes at all or
 a line longer than a line may be. Input is given in one piece and through a pipe in small pieces.
@@ -10,7 +10,7 @@ import random
 import subprocess
 import sys
 
-PROGRAM = "target/bin/framecheck"
+PROGRAM = "crates/framecheck/out/framecheck"
 SECOND = [sys.executable, "second/framecheck.py"]
 LIKELY = b"0123456789,,,,FF-+ \r\x00\xff65536"
 
