@@ -1,4 +1,4 @@
-use Rattle.std.proofs.Common.{◌++◌, is_ok, ap, ◌∙◌, arith}
+use Rattle.std.proofs.Common.{◌++◌, ap, ◌∙◌, arith}
 use Rattle.std.proofs.lemmas.Result.{err_from_is_err_and}
 use Rattle.lines.specs.Answers.{answer_to}
 use Rattle.lines.proofs.Appends.{puts_more}

@@ -1,4 +1,4 @@
-use Rattle.std.proofs.Common.{◌++◌, is_ok, ap, ◌∙◌, arith}
+use Rattle.std.proofs.Common.{◌++◌, ap, ◌∙◌, arith}
 use Rattle.std.proofs.lemmas.Result.{err_from_is_err_and}
 use Rattle.frame.specs.Parts.{sum_of, terms_of}
 use Rattle.lines.specs.Frames.{line_of}
