@@ -3,7 +3,7 @@
     fields.py [LIBRARY]
 
 LIBRARY is the path of the static library; without it the libfieldspeed.a is taken
-that `rt lib fieldspeed` makes under crates/. Builds bench/fields.rs
+that `rt lib` makes in crates/fieldspeed. Builds bench/fields.rs
 against it in /tmp/field_bench, for a plain x86-64, and runs it. That program
 checks that both sides give the same codes, then times them in turn.
 
