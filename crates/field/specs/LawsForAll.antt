@@ -1,5 +1,5 @@
 -- The laws for all numbers, from the laws on codes. Assumes nothing.
-use Rattle.std.specs.Prelude.{◌≡◌, ℕ, ◌%◌, ◌<◌}
+use Rattle.std.specs.Prelude.{◌≡◌, ◌≢◌, ℕ, ◌%◌, ◌<◌}
 use Rattle.std.proofs.Common.{sym, ap, ◌∙◌, arith, mod-lt}
 use Rattle.std.proofs.Math.Nat.{mod-mod}
 use Rattle.field.specs.Operations.{Operations, inverse}
@@ -30,6 +30,13 @@ module _ (K : Operations) (L : FieldLaws K) where
     pub assoc : ((a b c : ℕ) → a < K.q → b < K.q → c < K.q → f (f a b) c ≡ f a (f b c)) → (a b c : ℕ) → f (f a b) c ≡ f a (f b c)
     assoc law a b c = below a b c ∙ law (a % K.q) (b % K.q) (c % K.q) (code a) (code b) (code c) ∙ sym (under f reads a b c)
 
+  -- what is not read as 0 has an inverse
+  pub inverse_read : (a : ℕ) → a % K.q ≢ 0 → K.times a (inverse K a) ≡ 1
+  inverse_read a some =
+      let h = L.two_codes in
+      inverse_works K a (inverse K (a % K.q)) (inverse_code K (a % K.q) (omega arith))
+      (sym (left K.times L.times_reads a (inverse K (a % K.q))) ∙ L.times-inverse (a % K.q) (code a) some)
+
   abbrev pub lawful : Lawful
   lawful =
       record {
@@ -57,8 +64,5 @@ module _ (K : Operations) (L : FieldLaws K) where
             ap (λ x. K.plus a x) (L.negative_reads a)
             ∙ sym (left K.plus L.plus_reads a (K.negative (a % K.q)))
             ∙ L.plus-negative (a % K.q) (code a);
-        times-inverse = λ a some.
-            let h = L.two_codes in
-            inverse_works K a (inverse K (a % K.q)) (inverse_code K (a % K.q) (omega arith))
-            (sym (left K.times L.times_reads a (inverse K (a % K.q))) ∙ L.times-inverse (a % K.q) (code a) some);
+        times-inverse = inverse_read;
       }

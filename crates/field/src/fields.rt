@@ -9,7 +9,7 @@ pub trait Field {
 
     ghost ops: { Operations };
 
-    // Q, for generic code: a clause cannot name the constant of a type parameter. Implementations return `Self::Q`.
+    // Q, for generic code, whose clauses know the number in `ops`. Implementations return `Self::Q`.
     fn size() -> u16
         ensures { result ≡ ops.q };
 
