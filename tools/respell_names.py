@@ -4,7 +4,8 @@
 usage: python3 tools/respell_names.py [FOLDER]     (the top of a checkout; the current folder where none is given)
 
 Run once, after the toolchain's own port script. It changes whole names in .rt, .antt and .edit files below crates/, and
-stops before the first change where an old name comes from another library or a new one is taken already.
+stops before the first change where an old name is imported from another library, or a new one is declared already on a
+line `name : type`. It sees no other way of taking a name (parameters, imports, Rust's own names): look for those by hand.
 """
 import os
 import re

@@ -1,7 +1,9 @@
 -- What a cap means, from what the ledger below it means. Assumes nothing.
-use Rattle.std.specs.Prelude.{◌≡◌, ℕ, zero, suc, min}
+use Rattle.std.specs.Prelude.{◌≡◌, ℕ, zero, suc, ◌≤◌, min}
+use Rattle.std.proofs.Common.{arith}
 use Rattle.rows.specs.declared.caps.Cap.{Cap}
 use Rattle.rows.specs.Systems.{System}
+use Rattle.rows.specs.Ledgers.{LimitInRange}
 
 -- the rows are those below
 abbrev pub cap_system : {X : Type 0} → (X → System) → Cap X → System
@@ -10,6 +12,10 @@ cap_system system cap = system cap.below
 -- the limit is the smaller one
 abbrev pub cap_limit : {X : Type 0} → (X → ℕ) → Cap X → ℕ
 cap_limit most cap = min cap.own.number (most cap.below)
+
+-- the smaller of a number and a limit is a limit
+pub smaller_limit : (a b : ℕ) → 1 ≤ a → LimitInRange b → LimitInRange (min a b)
+smaller_limit a b some limit = record { some = omega (arith, limit.some); most = omega (arith, limit.most) }
 
 -- n caps over X
 abbrev pub Pile : ℕ → Type 0 → Type 0

@@ -1,8 +1,7 @@
 //! A cap over a ledger.
 ghost use Rattle.std.specs.Prelude.{◌≡◌};
 ghost use Rattle.rows.specs.Ledgers.{row_of, take_answer, after_take};
-ghost use Rattle.rows.specs.Caps.{cap_system, cap_limit, PileLaw};
-ghost use Rattle.std.proofs.Common.{rules};
+ghost use Rattle.rows.specs.Caps.{cap_system, cap_limit, smaller_limit, PileLaw};
 
 use crate::ledgers::{Ledger, first_beyond};
 use crate::reading::Rows;
@@ -45,7 +44,7 @@ impl<L> Cap<L> {
 impl<L: Ledger> Rows for Cap<L> {
     ghost system = { cap_system L.system };
 
-    ghost formed = { Prim.search rules };
+    ghost formed = { λ cap. L.formed cap.below };
 
     fn width(&self) -> usize {
         self.below.width()
@@ -71,7 +70,7 @@ impl<L: Ledger> Rows for Cap<L> {
 impl<L: Ledger> Ledger for Cap<L> {
     ghost most = { cap_limit L.most };
 
-    ghost limited = { Prim.search rules };
+    ghost limited = { λ cap. smaller_limit cap.own.number (L.most cap.below) cap.own.some (L.limited cap.below) };
 
     fn limit(&self) -> usize {
         self.own.number().min(self.below.limit())
