@@ -1,5 +1,6 @@
 -- What algebra draws from the laws of a field. Assumes nothing.
-use Rattle.std.proofs.Common.{◌≡◌, ℕ, zero, suc, ◌%◌, ◌<◌, ◌⊎◌, Some, None, unwrap_or, sym, refl, ap, ◌∙◌, inl, inr, mod-eq_of_lt, arith}
+use Rattle.std.proofs.Common.{◌≡◌, ℕ, ◌%◌, ◌<◌, ◌⊎◌, Some, None, unwrap_or, sym, refl, ap, ◌∙◌, inl, inr, mod-eq_of_lt, arith}
+use Rattle.std.proofs.lemmas.Bool.{cases_eq}
 use native.Mathlib.Nat.{mod-mod, zero-mod}
 use Rattle.field.specs.Operations.{reciprocal, inverse}
 use Rattle.field.specs.Laws.{Lawful, Consequences}
@@ -8,8 +9,7 @@ use Rattle.field.specs.Reciprocals as found
 
 -- a number is 0 or it is not
 pub zero_or_not : (n : ℕ) → (n ≡ 0) ⊎ (n ≡ 0 → ⊥)
-zero_or_not zero = inl refl
-zero_or_not (suc n) = inr (λ e. omega arith)
+zero_or_not n = cases_eq n 0
 
 -- the laws as equations that a rewriting can use
 module _ (F : Lawful) where

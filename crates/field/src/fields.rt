@@ -1,5 +1,5 @@
 //! What a field is: its operations on words, tied to operations on numbers, and the laws these owe.
-ghost use Rattle.std.specs.Prelude.{◌≡◌, ◌%◌, nat_lt};
+ghost use Rattle.std.specs.Prelude.{◌≡◌, ℕ, ◌%◌, nat_lt};
 ghost use Rattle.field.specs.Operations.{Operations, reciprocal};
 ghost use Rattle.field.specs.Laws.{FieldLaws, Lawful, Consequences};
 
@@ -7,11 +7,16 @@ ghost use Rattle.field.specs.Laws.{FieldLaws, Lawful, Consequences};
 pub trait Field {
     const Q: u16;
 
+    ghost Q: { ℕ };
+
     ghost ops: { Operations };
 
-    // Q, for generic code, whose clauses know the number in `ops`. Implementations return `Self::Q`.
+    // Q as a call, for code that wants a function.
     fn size() -> u16
-        ensures { result ≡ ops.q };
+        ensures { result ≡ ops.q }
+    {
+        Self::Q
+    }
 
     fn plus(a: u16, b: u16) -> u16
         ensures { result ≡ ops.plus a b };
@@ -25,6 +30,9 @@ pub trait Field {
     fn inverse(a: u16) -> Option<u16>
         ensures { result ≡ reciprocal ops a };
 
+    // Q counts the elements of `ops`, so that generic code may use it.
+    ghost counted: { Q ≡ ops.q };
+
     ghost laws: { FieldLaws ops };
 }
 
@@ -32,14 +40,14 @@ pub trait Field {
 pub fn is_code<F: Field>(word: u16) -> bool
     ensures { result ≡ nat_lt word F.Field.ops.q }
 {
-    word < F::size()
+    word < F::Q
 }
 
 // The code that a word is read as: its remainder.
 pub fn code_of<F: Field>(word: u16) -> u16
     ensures { result ≡ word % F.Field.ops.q }
 {
-    word % F::size()
+    word % F::Q
 }
 
 // In every field the laws hold for all numbers, and so does what algebra draws from them.

@@ -1,5 +1,5 @@
 //! The field of 256 elements of RFC 6330, section 5.7: octets as polynomials of degree below 8 over two elements.
-ghost use Rattle.std.specs.Prelude.{◌≡◌, ◌<◌};
+ghost use Rattle.std.specs.Prelude.{◌≡◌, refl, ◌<◌};
 ghost use Rattle.field.specs.Octets.{octets, power, ReducedProducts};
 ghost use Rattle.field.specs.Tables.{TableRules, LogOf};
 ghost use Rattle.field.specs.OctetLaws.{octet_laws};
@@ -59,7 +59,8 @@ fn power_at(k: usize) -> u16
     requires { k < 510 }
     ensures { result ≡ power k }
 {
-    u16::from(read_tables().0[k])
+    let (powers, _) = read_tables();
+    u16::from(powers[k])
 }
 
 // The logarithm of a code; of 0 some number below 255.
@@ -67,7 +68,8 @@ fn log_at(a: u16) -> usize
     requires { a < 256 }
     ensures { LogOf a result }
 {
-    usize::from(read_tables().1[usize::from(a)])
+    let (_, logs) = read_tables();
+    usize::from(logs[usize::from(a)])
 }
 
 // The octets.
@@ -76,13 +78,13 @@ pub struct Octets;
 impl Field for Octets {
     const Q: u16 = 256;
 
+    ghost Q = { 256 };
+
     ghost ops = { octets };
 
-    ghost laws = { octet_laws };
+    ghost counted = { refl };
 
-    fn size() -> u16 {
-        Self::Q
-    }
+    ghost laws = { octet_laws };
 
     fn plus(a: u16, b: u16) -> u16 {
         a % Self::Q ^ b % Self::Q
@@ -103,8 +105,7 @@ impl Field for Octets {
 
     fn inverse(a: u16) -> Option<u16> {
         let a = a % Self::Q;
-        let b = power_at(255 - log_at(a));
-        if a == 0 { None } else { Some(b) }
+        (a != 0).then_some(power_at(255 - log_at(a)))
     }
 }
 

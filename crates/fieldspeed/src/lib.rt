@@ -14,21 +14,25 @@ fn times_all<F: Field>(a: &[u16], b: &[u16], out: &mut [u16])
     ensures { Products F.Field.ops a.now b.now out.old out.new }
 {
     let count = out.len().min(a.len().min(b.len()));
+    // By index: of a slice written under a zip the check learns no element, and octets take half as long again.
     for i in 0..count {
         out[i] = F::times(a[i], b[i]);
     }
 }
 
 // Writes the inverse, 0 where there is none, at each place that both slices have.
+#[tactic(auto, unfolding(field::specs::Operations::inverse))]
 fn inverse_all<F: Field>(a: &[u16], out: &mut [u16])
     ensures { Inverses F.Field.ops a.now out.old out.new }
 {
     let count = out.len().min(a.len());
+    // By index, as above.
     for i in 0..count {
         out[i] = F::inverse(a[i]).unwrap_or(0);
     }
 }
 
+// C has no generic function, so each field has calls of its own.
 #[unsafe(no_mangle)]
 pub extern "C" fn prime_times(a: &[u16], b: &[u16], out: &mut [u16])
     ensures { Products (modulo 65521) a.now b.now out.old out.new }

@@ -5,8 +5,7 @@
 use field::fields::Field;
 use field::octets::Octets;
 use field::primes::Prime;
-use std::fmt;
-use std::fmt::Write;
+use std::alloc::AllocError;
 
 // Words at the ends of ranges: of bits, of octets and of the integers modulo 65521.
 const EDGES: [u16; 19] = [
@@ -14,28 +13,33 @@ const EDGES: [u16; 19] = [
     65522, 65535,
 ];
 
-fn put_inverse<F: Field>(text: &mut String, a: u16) -> fmt::Result {
+fn put_inverse<F: Field>(text: &mut String, a: u16) -> Result<(), AllocError> {
     match F::inverse(a) {
-        Some(b) => Ok(write!(text, ",{b}")?),
-        None => text.write_str(",none"),
+        Some(b) => write!(text, ",{b}"),
+        None => text.push_str(",none"),
     }
 }
 
-fn put_operations<F: Field>(text: &mut String, letter: char, a: u16, b: u16) -> fmt::Result {
+fn put_operations<F: Field>(
+    text: &mut String,
+    letter: char,
+    a: u16,
+    b: u16,
+) -> Result<(), AllocError> {
     let sum = F::plus(a, b);
     let product = F::times(a, b);
     let negative = F::negative(a);
     write!(text, "{letter},{a},{b},{sum},{product},{negative}")?;
     put_inverse::<F>(text, a)?;
-    text.write_char('\n')
+    text.push('\n')
 }
 
-fn put_pair(text: &mut String, a: u16, b: u16) -> fmt::Result {
+fn put_pair(text: &mut String, a: u16, b: u16) -> Result<(), AllocError> {
     put_operations::<Prime>(text, 'P', a, b)?;
     put_operations::<Octets>(text, 'B', a, b)
 }
 
-fn put_edges(text: &mut String) -> fmt::Result {
+fn put_edges(text: &mut String) -> Result<(), AllocError> {
     for a in EDGES {
         for b in EDGES {
             put_pair(text, a, b)?;
@@ -49,31 +53,31 @@ fn state_after(state: u32) -> u32 {
     state.wrapping_mul(1664525).wrapping_add(1013904223)
 }
 
-fn put_sequence(text: &mut String, pairs: u32) -> fmt::Result {
+fn put_sequence(text: &mut String, pairs: u32) -> Result<(), AllocError> {
     let mut state = 1;
     for _ in 0..pairs {
         let first = state_after(state);
         state = state_after(first);
+        // The upper half fits 16 bits, which is proved here; `try_from` would want an answer where it does not.
         put_pair(text, (first >> 16) as u16, (state >> 16) as u16)?;
     }
     Ok(())
 }
 
-fn put_products(text: &mut String, a: u16) -> fmt::Result {
+fn put_products(text: &mut String, a: u16) -> Result<(), AllocError> {
     write!(text, "B,times,{a}")?;
     for b in 0..Octets::Q {
-        let product = Octets::times(a, b);
-        write!(text, ",{product}")?;
+        write!(text, ",{}", Octets::times(a, b))?;
     }
-    text.write_char('\n')
+    text.push('\n')
 }
 
-fn put_inverses(text: &mut String) -> fmt::Result {
-    text.write_str("B,inverse")?;
+fn put_inverses(text: &mut String) -> Result<(), AllocError> {
+    text.push_str("B,inverse")?;
     for a in 0..Octets::Q {
         put_inverse::<Octets>(text, a)?;
     }
-    text.write_char('\n')
+    text.push('\n')
 }
 
 fn main(rt: HostRuntime) -> anyhow::Result<()> {

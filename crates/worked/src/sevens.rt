@@ -1,22 +1,24 @@
 //! A small third field, for tests of what is written for every field.
+ghost use Rattle.std.specs.Prelude.{refl};
 ghost use Rattle.field.specs.Modulo.{modulo};
 ghost use Rattle.worked.specs.Sevenths.{seven_laws};
 
 use field::fields::Field;
 
-// The integers modulo 7.
+// The integers modulo 7, in code of their own: to share it with `Prime` takes a trait of primes with its law, for a test.
+// That a remainder fits 16 bits again is proved at `as u16`.
 pub struct Seven;
 
 impl Field for Seven {
     const Q: u16 = 7;
 
+    ghost Q = { 7 };
+
     ghost ops = { modulo 7 };
 
-    ghost laws = { seven_laws };
+    ghost counted = { refl };
 
-    fn size() -> u16 {
-        Self::Q
-    }
+    ghost laws = { seven_laws };
 
     fn plus(a: u16, b: u16) -> u16 {
         (a % Self::Q + b % Self::Q) % Self::Q
