@@ -1,4 +1,2 @@
 pub mod Apart
 pub mod Decides
-pub mod Fronts
-mod Walks

@@ -1,5 +1,7 @@
 -- What makes terms a frame, as a check and in plain words. Assumes nothing.
 use Rattle.std.specs.Prelude.{◌≡◌, ℕ, suc, ◌<◌, ◌≤◌, cond, List, [], ◌∷◌, length, Some, None, Ok, Err, Option, Result, ◌==◌, ◌≢◌, nat_le, nat_lt, slice_index_or}
+use Rattle.std.specs.List.{position_from}
+use Rattle.std.proofs.Props.{props}
 use Rattle.frame.specs.declared.terms.Term.{Term}
 use Rattle.frame.specs.declared.refusals.Refusal.{Refusal}
 use Rattle.frame.specs.declared.refusals.Refusal.TheVariants.{TermCount, MinuteOrder, ZeroWeight}
@@ -21,8 +23,7 @@ first_minute at low (t ∷ ts) = cond (nat_lt t.minute 64) (cond (nat_le low t.m
 
 -- the number of the first term, counted from `at`, whose weight is 0
 abbrev pub first_weight : ℕ → List Term → Option ℕ
-first_weight at [] = None
-first_weight at (t ∷ ts) = cond (t.weight == 0) (Some at) (first_weight (suc at) ts)
+first_weight at ts = position_from (λ t. t.weight == 0) at ts
 
 abbrev pub weighed : Option ℕ → Result (Unit {0}) Refusal
 weighed None = Ok tt
@@ -44,6 +45,10 @@ pub record FrameTerms (ts : List Term) : Type 0 where
   pub rising : (j k : ℕ) → j < k → k < length ts → minute_at ts j < minute_at ts k
   pub weighted : (k : ℕ) → k < length ts → weight_at ts k ≢ 0
   pub words : (k : ℕ) → k < length ts → weight_at ts k < 65536
+
+-- there is one proof of it at most
+pub FrameTerms-prop : (ts : List Term) → IsProp (FrameTerms ts)
+FrameTerms-prop ts = Prim.hlevel props
 
 -- a check's answer is "no refusal" just where the terms make a frame
 pub record Decided (ts : List Term) (r : Result (Unit {0}) Refusal) : Type 0 where

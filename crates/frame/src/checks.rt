@@ -15,6 +15,7 @@ pub const MINUTES: u16 = 64;
 fn first_minute(terms: &[Term]) -> Option<usize>
     ensures { result ≡ first_minute 0 0 terms.now }
 {
+    // In a `for`: no proof follows a closure that changes what it holds, here the lowest minute allowed.
     let mut low = 0;
     for (i, term) in terms.iter().enumerate() {
         if term.minute >= MINUTES || term.minute < low {
@@ -30,12 +31,7 @@ fn first_weight(terms: &[Term]) -> Option<usize>
     ensures value { result ≡ first_weight 0 terms.now }
     ensures words { result ≡ None → (k : ℕ) → k < length terms.now → weight_at terms.now k < 65536 }
 {
-    for (i, term) in terms.iter().enumerate() {
-        if term.weight == 0 {
-            return Some(i);
-        }
-    }
-    None
+    terms.iter().position(|term| term.weight == 0)
 }
 
 // Whether terms make a frame: their number, then the minutes, then the weights.

@@ -1,10 +1,10 @@
 //! A frame: a sum, and the terms that it is the weighted sum of, lent for reading.
-ghost use Rattle.std.specs.Prelude.{◌≡◌, ℕ, ◌<◌, ◌≤◌, length, ◌≢◌};
-ghost use Rattle.frame.specs.Frames.{minute_at, weight_at};
+ghost use Rattle.std.specs.Prelude.{◌<◌};
+ghost use Rattle.frame.specs.Frames.{FrameTerms, FrameTerms-prop};
 
+use super::checks::check_terms;
+use super::refusals::Refusal;
 use super::terms::Term;
-
-pub mod calls;
 
 // A weighted sum of minutes. No value of this type exists whose terms the check refuses.
 #[derive(Clone, Copy)]
@@ -12,10 +12,56 @@ pub struct Frame<'a> {
     sum: u16,
     terms: &'a [Term],
     ghost word: { sum < 65536 },
-    ghost some: { 1 ≤ length terms.now },
-    ghost few: { length terms.now ≤ 16 },
-    ghost below: { (k : ℕ) → k < length terms.now → minute_at terms.now k < 64 },
-    ghost rising: { (j k : ℕ) → j < k → k < length terms.now → minute_at terms.now j < minute_at terms.now k },
-    ghost weighted: { (k : ℕ) → k < length terms.now → weight_at terms.now k ≢ 0 },
-    ghost words: { (k : ℕ) → k < length terms.now → weight_at terms.now k < 65536 },
+    ghost frame: { FrameTerms terms.now } by { FrameTerms-prop terms.now },
+}
+
+impl<'a> Frame<'a> {
+    ghost use Rattle.std.specs.Prelude.{◌≡◌, length};
+    ghost use Rattle.std.specs.List.{slice_get};
+    ghost use Rattle.frame.specs.Frames.{FrameTerms};
+    ghost use Rattle.frame.specs.Parts.{sum_of, terms_of, Checked};
+
+    // The frame of these terms, or the check's refusal. No `TryFrom`: a pair would lose the names of its parts.
+    pub fn check(sum: u16, terms: &'a [Term]) -> Result<Frame<'a>, Refusal>
+        ensures { Checked sum terms.now result }
+    {
+        check_terms(terms)?;
+        Ok(Frame { sum, terms })
+    }
+
+    // The frame of terms that the check let pass. It cannot refuse.
+    pub fn new(sum: u16, terms: &'a [Term]) -> Frame<'a>
+        requires { FrameTerms terms.now }
+        ensures sums { sum_of result ≡ sum }
+        ensures holds { terms_of result ≡ terms.now }
+    {
+        Frame { sum, terms }
+    }
+
+    pub fn sum(&self) -> u16
+        ensures { result ≡ sum_of self.now }
+    {
+        self.sum
+    }
+
+    // All terms, in order.
+    pub fn terms(&self) -> &'a [Term]
+        ensures { result.now ≡ terms_of self.now }
+    {
+        self.terms
+    }
+
+    // How many terms it has.
+    pub fn count(&self) -> usize
+        ensures { result ≡ length (terms_of self.now) }
+    {
+        self.terms.len()
+    }
+
+    // The term with this number, counted from 0; none past the end.
+    pub fn term(&self, number: usize) -> Option<Term>
+        ensures { result ≡ slice_get (terms_of self.now) number }
+    {
+        self.terms.get(number).copied()
+    }
 }

@@ -48,6 +48,7 @@ pub enum Refusal {
 }
 
 impl Refusal {
+    // Its number in the table of refusals, fixed by a rule of the project. Named: `u8::from` would not say which number.
     pub fn number(&self) -> u8
         ensures { result ≡ refusal_number self.now }
     {
@@ -71,7 +72,7 @@ impl Refusal {
         }
     }
 
-    // The term or byte that the refusal points at, counted from 0; 0 where it points at none.
+    // The term or byte that the refusal points at, counted from 0. By a rule of the project 0 where it points at none.
     pub fn place(&self) -> usize
         ensures { result ≡ refusal_place self.now }
     {
@@ -88,9 +89,9 @@ impl Refusal {
     pub fn layer(&self) -> Layer
         ensures { result ≡ refusal_layer self.now }
     {
-        match self.number() {
-            13..=15 => Layer::Line,
-            10..=12 => Layer::Frame,
+        match self {
+            Refusal::UnknownLine | Refusal::FieldCount | Refusal::BadField(_) => Layer::Line,
+            Refusal::TermCount | Refusal::MinuteOrder(_) | Refusal::ZeroWeight(_) => Layer::Frame,
             _ => Layer::Block,
         }
     }

@@ -8,15 +8,17 @@ use std::io::Read;
 fn main(rt: HostRuntime) -> io::Result<()> {
     let mut input = rt.stdin();
     let output = rt.stdout();
+    // Lent to `read`, which says how much of it is new.
     let mut chunk = [0; 65536];
     let mut check = LogCheck::new();
     let mut text = Vec::new(rt.alloc());
+    // The bound is for the proof that the loop ends: no input is that long.
     for _ in 0..u64::MAX {
         let count = input.read(&mut chunk)?;
         if count == 0 {
             break;
         }
-        check.feed(&mut text, &chunk[0..count])?;
+        check.feed(&mut text, &chunk[..count])?;
         output.write_all(&text)?;
         text.clear();
     }

@@ -8,8 +8,6 @@ use Rattle.lines.specs.Answers.{answer_to}
 use Rattle.lines.specs.Fields.{Whole, on_first, split}
 use Rattle.lines.specs.Writing.{Appends}
 use Rattle.lines.proofs.Cuts.{split_last, split_more, split_some}
-use Rattle.framelog.specs.declared.buffers.LineBuffer.{LineBuffer}
-use Rattle.framelog.specs.Held.{held}
 use Rattle.framelog.specs.Lines.{answered, unfinished, answer_last, Holds, Grows, Keeps, Ended, Finishes, Checks}
 use Rattle.framelog.proofs.Kept.{front_front, front_answer}
 
@@ -89,7 +87,7 @@ grows_more o p q a b c g h =
     }
 
 -- taking bytes one after the other
-pub keeps_more : (a b c : LineBuffer) (o p q : Vec ℕ Global) (xs ys : List ℕ) → Keeps a b o p xs → Keeps b c p q ys → Keeps a c o q (xs ++ ys)
+pub keeps_more : (a b c : List ℕ) (o p q : Vec ℕ Global) (xs ys : List ℕ) → Keeps a b o p xs → Keeps b c p q ys → Keeps a c o q (xs ++ ys)
 keeps_more a b c o p q xs ys k l =
     record {
       holds = λ input h. subst (Holds c) (append_assoc input xs ys) (l.holds (input ++ xs) (k.holds input h));
@@ -98,15 +96,8 @@ keeps_more a b c o p q xs ys k l =
           (grows_more o p q _ _ _ (k.grows input h) (l.grows (input ++ xs) (k.holds input h)));
     }
 
-pub keeps_none : (a : LineBuffer) (o : Vec ℕ Global) → Keeps a a o o []
-keeps_none a o =
-    record {
-      holds = λ input h. subst (Holds a) (sym (append-nil input)) h;
-      grows = λ input h. grows_same o _ _ (ap (λ all. answered (split 10 all)) (append-nil input));
-    }
-
 -- a part of a line, with no end in it
-module _ (a b : LineBuffer) (o : Vec ℕ Global) (part : List ℕ) (whole : Whole 10 part) (is : held b ≡ take 257 (held a ++ part)) where
+module _ (a b : List ℕ) (o : Vec ℕ Global) (part : List ℕ) (whole : Whole 10 part) (is : b ≡ take 257 (a ++ part)) where
   part_cut : (input : List ℕ) → split 10 (input ++ part) ≡ glue (split 10 input) (part ∷ [])
   part_cut input = split-append 10 input part ∙ ap (glue (split 10 input)) (split_last 10 part whole)
 
@@ -123,7 +114,7 @@ module _ (a b : LineBuffer) (o : Vec ℕ Global) (part : List ℕ) (whole : Whol
       }
 
 -- the last part of a line, and its end
-module _ (a b : LineBuffer) (o p : Vec ℕ Global) (part text : List ℕ) (whole : Whole 10 part) (empty : held b ≡ []) (is : text ≡ take 257 (held a ++ part)) (put : vec_items p ≡ vec_items o ++ answer_to text) where
+module _ (a b : List ℕ) (o p : Vec ℕ Global) (part text : List ℕ) (whole : Whole 10 part) (empty : b ≡ []) (is : text ≡ take 257 (a ++ part)) (put : vec_items p ≡ vec_items o ++ answer_to text) where
   line_cut : (input : List ℕ) → split 10 (input ++ (part ++ 10 ∷ [])) ≡ glue (split 10 input) (part ∷ [] ∷ [])
   line_cut input = split-append 10 input (part ++ 10 ∷ []) ∙ ap (glue (split 10 input)) (split_more 10 part [] whole)
 
@@ -145,37 +136,25 @@ module _ (a b : LineBuffer) (o p : Vec ℕ Global) (part text : List ℕ) (whole
       }
 
 -- the end of the input
-last_none : (u : List ℕ) → length u ≡ 0 → answer_last u ≡ []
-last_none [] h = refl
-last_none (b ∷ u) h = absurd (omega arith)
-
 last_some : (u : List ℕ) → 0 < length u → answer_last u ≡ answer_to u
 last_some [] h = absurd (omega arith)
 last_some (b ∷ u) h = refl
 
-pub ended_empty : (b : LineBuffer) (o : Vec ℕ Global) (text : List ℕ) → text ≡ held b → length text ≡ 0 → Ended b o o
-ended_empty b o text is none = record {
+ended_last : (held : List ℕ) (o p : Vec ℕ Global) → (length held ≡ 0 → ⊥) → vec_items p ≡ vec_items o ++ answer_to held → Ended held o p
+ended_last held o p some put = record {
   grows = λ input h.
       let u = unfinished (split 10 input) in
-      let empty : length u ≡ 0 = omega (arith, ap length (is ∙ h), length-take 257 u) in
-      grows_same o _ _ (ap (λ l. answered (split 10 input) ++ l) (last_none u empty) ∙ append-nil (answered (split 10 input)));
+      let long : 0 < length u = omega (arith, some, ap length h, length-take 257 u) in
+      let last : answer_to held ≡ answer_last u = ap answer_to h ∙ front_answer u ∙ sym (last_some u long) in
+      record { text = answer_to held; output = put; answer = ap (λ l. answered (split 10 input) ++ l) (sym last) };
 }
 
-ended_last : (b : LineBuffer) (o p : Vec ℕ Global) (text : List ℕ) → text ≡ held b → (length text ≡ 0 → ⊥) → vec_items p ≡ vec_items o ++ answer_to text → Ended b o p
-ended_last b o p text is some put = record {
-  grows = λ input h.
-      let u = unfinished (split 10 input) in
-      let long : 0 < length u = omega (arith, some, ap length (is ∙ h), length-take 257 u) in
-      let last : answer_to text ≡ answer_last u = ap answer_to (is ∙ h) ∙ front_answer u ∙ sym (last_some u long) in
-      record { text = answer_to text; output = put; answer = ap (λ l. answered (split 10 input) ++ l) (sym last) };
-}
-
-pub finishes : (b : LineBuffer) (o p : Vec ℕ Global) (text : List ℕ) (r : Result (Unit {0}) AllocError) → text ≡ held b → (length text ≡ 0 → ⊥) → Appends o p (answer_to text) 257 r → Finishes b o p r
-finishes b o p text (Ok _) is some put = ended_last b o p text is some put
-finishes b o p text (Err e) is some put = put
+pub finishes : (held : List ℕ) (o p : Vec ℕ Global) (r : Result (Unit {0}) AllocError) → (length held ≡ 0 → ⊥) → Appends o p (answer_to held) 257 r → Finishes held o p r
+finishes held o p (Ok _) some put = ended_last held o p some put
+finishes held o p (Err e) some put = put
 
 -- a whole log, from its start
-module _ (a b : LineBuffer) (o p : Vec ℕ Global) (start : Holds a []) where
+module _ (a b : List ℕ) (o p : Vec ℕ Global) (start : Holds a []) where
   pub log_answered : (bytes : List ℕ) → Keeps a b o p bytes → vec_items p ≡ vec_items o ++ answered (split 10 bytes)
   log_answered bytes k = let g = k.grows [] start in g.output ∙ ap (λ l. vec_items o ++ l) (sym g.answer)
 

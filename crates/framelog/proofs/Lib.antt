@@ -1,2 +1,3 @@
 mod Inputs
 mod Kept
+mod Parts

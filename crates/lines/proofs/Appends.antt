@@ -1,48 +1,41 @@
--- Appending in steps. Assumes nothing.
-use Rattle.std.proofs.Common.{◌≡◌, ℕ, ◌+◌, ◌<◌, List, [], ◌∷◌, ◌++◌, length, drop, vec_items, decimal, Vec, sym, refl, ap, ◌∙◌, subst, append_assoc, append-nil, arith, length-append}
+-- What lines take: of a frame's terms, and of a refusal's numbers. Assumes nothing.
+use Rattle.std.proofs.Common.{◌≡◌, ℕ, ◌+◌, ◌^◌, ◌<◌, ◌≤◌, List, [], ◌∷◌, ◌++◌, length, drop, decimal, sym, ap, ◌∙◌, subst, arith, length-append}
 use Rattle.std.proofs.lemmas.List.{drop_more}
-use Rattle.std.specs.declared.alloc.Global.{Global}
+use Rattle.std.proofs.lemmas.Fmt.{length-decimal-le}
 use Rattle.frame.specs.declared.terms.Term.{Term}
+use Rattle.frame.specs.declared.frames.Frame.{Frame}
+use Rattle.frame.specs.Parts.{sum_of, terms_of}
 use Rattle.frame.specs.Frames.{no_term, minute_at, weight_at}
-use Rattle.lines.specs.Appending.{Room, Puts}
 use Rattle.lines.specs.Frames.{line_of}
 use Rattle.lines.specs.Writing.{terms_text}
+use Rattle.lines.proofs.Exact.{line_short, is_frame}
 
-pub puts_more : (u v w : Vec ℕ Global) (xs ys : List ℕ) → Puts u v xs → Puts v w ys → Puts u w (xs ++ ys)
-puts_more u v w xs ys p q =
-    record {
-      items = q.items ∙ ap (λ zs. zs ++ ys) p.items ∙ append_assoc (vec_items u) xs ys;
-      len = omega (arith, p.len, q.len, length-append xs ys);
-      capacity = q.capacity ∙ p.capacity;
-    }
+-- `done` is written, and the terms from i on are not yet
+module _ (s : ℕ) (ts : List Term) (done : List ℕ) (i : ℕ) (so : done ++ terms_text (drop i ts) ≡ line_of s ts) (h : i < length ts) where
+  abbrev minute : List ℕ
+  minute = 44 ∷ decimal (minute_at ts i)
 
--- `done` is appended, and what is left of all the bytes begins with `piece`
-module _ (u v : Vec ℕ Global) (done piece rest all : List ℕ) (room : Room u (length all)) (put : Puts u v done) (is : done ++ (piece ++ rest) ≡ all) where
-  pub room_for : Room v (length piece)
-  room_for =
-      let long : length (done ++ (piece ++ rest)) ≡ length done + (length piece + length rest) = length-append done (piece ++ rest) ∙ ap (λ n. length done + n) (length-append piece rest) in
-      omega (arith, put.len, put.capacity, ap length is)
+  abbrev weight : List ℕ
+  weight = 44 ∷ decimal (weight_at ts i)
 
-  pub left_after : (done ++ piece) ++ rest ≡ all
-  left_after = append_assoc done piece rest ∙ is
+  abbrev rest : List ℕ
+  rest = terms_text (drop (i + 1) ts)
 
-pub term_next : (ts : List Term) (i : ℕ) → i < length ts → terms_text (drop i ts) ≡ (44 ∷ decimal (minute_at ts i)) ++ ((44 ∷ decimal (weight_at ts i)) ++ terms_text (drop (i + 1) ts))
-term_next ts i h = ap terms_text (drop_more ts i no_term h)
+  next : done ++ (minute ++ (weight ++ rest)) ≡ line_of s ts
+  next = ap (λ l. done ++ l) (sym (ap terms_text (drop_more ts i no_term h))) ∙ so
 
--- a frame's line in three steps; n and us are the sum and the terms as they were read
-module _ (u v : Vec ℕ Global) (s n : ℕ) (ts us : List Term) (room : Room u (length (line_of s ts))) (letter : Puts u v (70 ∷ [])) (sum : n ≡ s) (terms : us ≡ ts) where
-  same_line : line_of n us ≡ line_of s ts
-  same_line i = line_of (sum i) (terms i)
+  room_term : length (line_of s ts) ≤ 256 → length done + (length minute + length weight) ≤ 256
+  room_term short = omega (arith, ap length next, length-append done (minute ++ (weight ++ rest)), length-append minute (weight ++ rest), length-append weight rest)
 
-  enough : Room u (length (line_of n us))
-  enough = subst (λ l. Room u (length l)) (sym same_line) room
+-- there is room for the next term of a frame
+pub frame_room : (f : Frame) (ts : List Term) (done : List ℕ) (i : ℕ) → ts ≡ terms_of f → done ++ terms_text (drop i ts) ≡ line_of (sum_of f) ts → i < length ts → length done + (length (44 ∷ decimal (minute_at ts i)) + length (44 ∷ decimal (weight_at ts i))) ≤ 256
+frame_room f ts done i same so h =
+    room_term (sum_of f) ts done i so h (subst (λ us. length (line_of (sum_of f) us) ≤ 256) (sym same) (line_short _ _ (is_frame f)))
 
-  pub room_sum : Room v (length (44 ∷ decimal n))
-  room_sum = room_for u v (70 ∷ []) (44 ∷ decimal n) (terms_text us) (line_of n us) enough letter refl
+-- a letter in an empty line
+pub one_letter : (cleared line : List ℕ) (c : ℕ) → line ≡ cleared ++ c ∷ [] → cleared ≡ [] → length line ≡ 1
+one_letter cleared line c is empty = ap length (is ∙ ap (λ l. l ++ c ∷ []) empty)
 
-  module _ (w : Vec ℕ Global) (put : Puts v w (44 ∷ decimal n)) where
-    pub room_terms : Room w (length (terms_text us))
-    room_terms = room_for u w ((70 ∷ []) ++ 44 ∷ decimal n) (terms_text us) [] (line_of n us) enough (puts_more u v w (70 ∷ []) (44 ∷ decimal n) letter put) (ap (λ l. 70 ∷ 44 ∷ (decimal n ++ l)) (append-nil (terms_text us)))
-
-    pub puts_line : (x : Vec ℕ Global) → Puts w x (terms_text us) → Puts u x (line_of s ts)
-    puts_line x last = subst (Puts u x) same_line (puts_more u w x ((70 ∷ []) ++ 44 ∷ decimal n) (terms_text us) (puts_more u v w (70 ∷ []) (44 ∷ decimal n) letter put) last)
+-- the numbers of a refusal
+pub short_decimals : (number place : ℕ) → number < 256 → place < 2 ^ 64 → (length (decimal number) ≤ 3) × (length (decimal place) ≤ 20)
+short_decimals number place n p = (length-decimal-le 3 number (omega arith) (omega arith) (omega arith), length-decimal-le 20 place (omega arith) (omega arith) (omega arith))

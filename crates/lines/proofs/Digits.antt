@@ -1,13 +1,11 @@
 -- Reading gives n exactly where the bytes are the decimal of n. Assumes nothing.
-use Rattle.std.proofs.Common.{◌≡◌, ℕ, ◌+◌, ◌-◌, ◌*◌, ◌<◌, ◌≤◌, Bool, true, false, cond, ltb, leb, List, [], ◌∷◌, length, get_or, drop, Some, None, decimal, Option, sym, refl, ap, ◌∙◌, subst, ⊎_elim, arith, rules}
+use Rattle.std.proofs.Common.{◌≡◌, ℕ, ◌+◌, ◌-◌, ◌*◌, ◌<◌, ◌≤◌, Bool, true, false, cond, ltb, leb, List, [], ◌∷◌, length, get_or, Some, None, decimal, Option, sym, refl, ap, ◌∙◌, subst, ⊎_elim, arith, rules}
 use Rattle.std.specs.Int.{IsInRange}
-use Rattle.std.proofs.lemmas.Bool.{ltb-true, leb-true, lt-ltb, le-leb, lt-leb, le-ltb, eq-eqb, ne_eqb, cases_eq, cond-true, cond-false}
-use Rattle.std.proofs.lemmas.List.{drop_more}
+use Rattle.std.proofs.lemmas.Bool.{ltb-true, leb-true, lt-ltb, le-leb, eq-eqb, ne_eqb, cases_eq, cond-true, cond-false}
 use Rattle.std.proofs.lemmas.Str.Parse.{IsNumeralModel, numerals_by_fold, not_in_digits}
 use Rattle.std.proofs.lemmas.Fmt.{digits_decimal, digits_value-decimal, decimal-digits_value, decimal_nonempty, first_decimal, decimal_digit}
 use Rattle.lines.specs.Fields.{Whole}
-use Rattle.frame.proofs.Apart.{none_some}
-use Rattle.lines.specs.Tokens.{letter_of}
+use Rattle.std.proofs.lemmas.Option.{none-some}
 use Rattle.lines.specs.Numbers.{read_on, number_of, Number}
 
 some_same : (m n : ℕ) → ◌≡◌ {A = Option ℕ} (Some m) (Some n) → m ≡ n
@@ -32,9 +30,9 @@ grows n (c ∷ cs) = omega (arith, grows (n * 10 + (c - 48)) cs)
 -- one byte of a reading
 step : (a b l : Bool) (x : Option ℕ) (m : ℕ) → cond a (cond b (cond l x None) None) None ≡ Some m → (a ≡ true) × (b ≡ true) × (l ≡ true) × (x ≡ Some m)
 step true true true x m e = (refl, refl, refl, e)
-step true true false x m e = absurd (none_some m e)
-step true false l x m e = absurd (none_some m e)
-step false b l x m e = absurd (none_some m e)
+step true true false x m e = absurd (none-some m e)
+step true false l x m e = absurd (none-some m e)
+step false b l x m e = absurd (none-some m e)
 
 read_plain : (n : ℕ) (cs : List ℕ) (m : ℕ) → n < 65536 → read_on n cs ≡ Some m → Plain cs × (writes n cs ≡ m) × (m < 65536)
 read_plain n [] m h e = (tt, some_same n m e, omega (arith, some_same n m e))
@@ -56,19 +54,13 @@ plain_decimal bs n some lead e =
     (p.2, sym (decimal-digits_value own bs p.0 some lead (omega (arith, p.1, p.2))) ∙ ap decimal p.1)
 
 pub number_reads : (bs : List ℕ) (n : ℕ) → number_of bs ≡ Some n → (n < 65536) × (bs ≡ decimal n)
-number_reads [] n e = absurd (none_some n e)
+number_reads [] n e = absurd (none-some n e)
 number_reads (c ∷ []) n e = plain_decimal (c ∷ []) n (omega arith) (λ z. refl) e
 number_reads (c ∷ d ∷ cs) n e =
     ⊎_elim
-    (λ z. absurd (none_some n (sym (cond-true _ _ _ (eq-eqb c 48 z)) ∙ e)))
+    (λ z. absurd (none-some n (sym (cond-true _ _ _ (eq-eqb c 48 z)) ∙ e)))
     (λ z. plain_decimal (c ∷ d ∷ cs) n (omega arith) (λ y. absurd (z y)) (sym (cond-false _ _ _ (ne_eqb c 48 z)) ∙ e))
     (cases_eq c 48)
-
--- a number is no letter
-pub number_no_letter : (bs : List ℕ) (n : ℕ) → number_of bs ≡ Some n → None ≡ letter_of bs
-number_no_letter [] n e = refl
-number_no_letter (c ∷ []) n e = sym (cond-false _ _ _ (lt-leb 65 c (omega (arith, (read_plain 0 (c ∷ []) n (omega arith) e).0.0))))
-number_no_letter (c ∷ d ∷ cs) n e = refl
 
 -- no decimal begins with 0 but that of 0, which has one byte
 lead_decimal : (n : ℕ) → n < 65536 → get_or (decimal n) 0 0 ≡ 48 → length (decimal n) ≡ 1
@@ -78,7 +70,7 @@ lead_decimal n h z =
     (λ e. absurd (omega (arith, first_decimal n (omega arith) (omega arith))))
     (cases_eq n 0)
 
-pub open_number : (bs : List ℕ) → 0 < length bs → (get_or bs 0 0 ≡ 48 → length bs ≡ 1) → number_of bs ≡ read_on 0 bs
+open_number : (bs : List ℕ) → 0 < length bs → (get_or bs 0 0 ≡ 48 → length bs ≡ 1) → number_of bs ≡ read_on 0 bs
 open_number [] some lead = absurd (omega arith)
 open_number (c ∷ []) some lead = refl
 open_number (c ∷ d ∷ cs) some lead = rw (ne_eqb c 48 (λ z. omega (arith, lead z)))
@@ -89,29 +81,6 @@ number_written bs n h e =
     ap number_of e ∙ open_number (decimal n) (decimal_nonempty n (omega arith)) (lead_decimal n h) ∙ plain_read 0 (decimal n) (digits_decimal own n (omega arith)) (omega arith) ∙ ap Some value
 
 -- numbers by their bytes, as the program takes them
-pub empty_none : (bs : List ℕ) → length bs ≡ 0 → None ≡ number_of bs
-empty_none [] e = refl
-empty_none (c ∷ cs) e = absurd (omega arith)
-
-pub lead_none : (bs : List ℕ) → get_or bs 0 0 ≡ 48 → 1 < length bs → None ≡ number_of bs
-lead_none [] z more = absurd (omega arith)
-lead_none (c ∷ []) z more = absurd (omega arith)
-lead_none (c ∷ d ∷ cs) z more = sym (cond-true _ _ _ (eq-eqb c 48 z))
-
-module _ (n : ℕ) (bs : List ℕ) (i : ℕ) (h : i < length bs) where
-  pub digit_low : get_or bs i 0 < 48 → read_on n (drop i bs) ≡ None
-  digit_low l = rw (drop_more bs i 0 h, lt-leb 48 (get_or bs i 0) l)
-
-  pub digit_high : 48 ≤ get_or bs i 0 → 57 < get_or bs i 0 → read_on n (drop i bs) ≡ None
-  digit_high l g = rw (drop_more bs i 0 h, le-leb 48 (get_or bs i 0) l, lt-leb (get_or bs i 0) 57 g)
-
-  module _ (l : 48 ≤ get_or bs i 0) (g : get_or bs i 0 ≤ 57) where
-    pub digit_large : 65535 < n * 10 + (get_or bs i 0 - 48) → read_on n (drop i bs) ≡ None
-    digit_large m = rw (drop_more bs i 0 h, le-leb 48 (get_or bs i 0) l, le-leb (get_or bs i 0) 57 g, le-ltb (n * 10 + (get_or bs i 0 - 48)) 65536 (omega arith))
-
-    pub digit_more : n * 10 + (get_or bs i 0 - 48) ≤ 65535 → read_on n (drop i bs) ≡ read_on (n * 10 + (get_or bs i 0 - 48)) (drop (i + 1) bs)
-    digit_more m = rw (drop_more bs i 0 h, le-leb 48 (get_or bs i 0) l, le-leb (get_or bs i 0) 57 g, lt-ltb (n * 10 + (get_or bs i 0 - 48)) 65536 (omega arith))
-
 -- no byte of a decimal is a comma
 pub decimal_whole : (n : ℕ) → n < 65536 → Whole 44 (decimal n)
 decimal_whole n h = not_in_digits own (decimal n) 44 (digits_decimal own n (omega arith)) (λ i. omega (arith, i.0))

@@ -1,5 +1,5 @@
 -- Each frame has one line, and reading takes that line, and no other, to that frame. Assumes nothing.
-use Rattle.std.proofs.Common.{◌≡◌, ℕ, zero, suc, ◌+◌, ◌*◌, ◌%◌, ◌<◌, ◌≤◌, Bool, true, false, cond, eqb, leb, List, [], ◌∷◌, ◌++◌, map, length, drop, Some, None, Ok, Err, decimal, Option, Result, sym, refl, ap, ◌∙◌, subst, le_of_suc-le-suc, not-suc-le-zero, arith, length-append}
+use Rattle.std.proofs.Common.{◌≡◌, ℕ, zero, suc, ◌+◌, ◌*◌, ◌%◌, ◌<◌, ◌≤◌, Bool, true, false, cond, eqb, leb, List, [], ◌∷◌, map, length, drop, Some, None, Ok, Err, decimal, Option, Result, sym, refl, ap, ◌∙◌, subst, le_of_suc-le-suc, not-suc-le-zero, arith, length-append}
 use Rattle.std.specs.Option.{ok_or}
 use Rattle.std.proofs.lemmas.Fmt.{length-decimal-le}
 use Rattle.std.proofs.lemmas.List.{length-map}
@@ -7,12 +7,11 @@ use Rattle.std.proofs.lemmas.Bool.{eqb-true, le-leb, eq-eqb, cond-true}
 use Rattle.frame.specs.declared.terms.Term.{Term}
 use Rattle.frame.specs.declared.refusals.Refusal.{Refusal}
 use Rattle.frame.specs.Frames.{minute_at, weight_at, check}
-use Rattle.frame.proofs.Apart.{none_some, err_ok}
+use Rattle.std.proofs.lemmas.Option.{none-some}
+use Rattle.frame.proofs.Apart.{err_ok}
 use Rattle.frame.proofs.Decides.{check_sound, check_complete}
 use Rattle.frame.specs.declared.frames.Frame.{Frame}
 use Rattle.frame.specs.Parts.{sum_of, terms_of}
-use Rattle.frame.proofs.Fronts.{frame_terms}
-use Rattle.lines.specs.Answers.{answer_of, Echoes}
 use Rattle.lines.specs.Writing.{OneLine}
 use Rattle.lines.specs.Fields.{Whole, AllWhole, split, parted, join, Field, placed}
 use Rattle.lines.specs.Frames.{flat, line_of, IsFrame}
@@ -121,16 +120,16 @@ frame_passed (n ∷ ms) s ts h =
 
 picked : (a b : Bool) (x y : ℕ) → cond a (cond b (Some x) None) None ≡ Some y → x ≡ y
 picked true true x y h = cc
-picked true false x y h = absurd (none_some y h)
-picked false b x y h = absurd (none_some y h)
+picked true false x y h = absurd (none-some y h)
+picked false b x y h = absurd (none-some y h)
 
 letter_is : (p : List ℕ) → letter_of p ≡ Some 70 → p ≡ 70 ∷ []
-letter_is [] h = absurd (none_some 70 h)
+letter_is [] h = absurd (none-some 70 h)
 letter_is (b ∷ []) h = ap (λ c. c ∷ []) (picked (leb 65 b) (leb b 90) b 70 h)
-letter_is (b ∷ c ∷ cs) h = absurd (none_some 70 h)
+letter_is (b ∷ c ∷ cs) h = absurd (none-some 70 h)
 
 parts_only : (s : ℕ) (ts : List Term) (line : List ℕ) (qs : List (List ℕ)) → split 44 line ≡ qs → by_letter (first_letter (placed 0 qs)) (drop 1 (placed 0 qs)) ≡ Ok (content s ts) → IsFrame s ts × (line ≡ line_of s ts)
-parts_only s ts line [] cut h = absurd (none_some 70 (letter_read None [] _ h).0)
+parts_only s ts line [] cut h = absurd (none-some 70 (letter_read None [] _ h).0)
 parts_only s ts line (p ∷ ps) cut h =
     let at = suc (0 + length p) in
     let known = letter_read (letter_of p) (placed at ps) _ h in
@@ -183,7 +182,4 @@ one_line s ts f = record { short = line_short s ts f; back = line_each s ts f; o
 
 -- the sum and the terms of a frame
 pub is_frame : (f : Frame) → IsFrame (sum_of f) (terms_of f)
-is_frame f = record { word = f.word; terms = frame_terms f }
-
-pub echoes : (line : List ℕ) → Echoes line
-echoes line s ts f e = ap (λ r. answer_of r ++ 10 ∷ []) (ap read e ∙ line_each s ts f) ∙ ap (λ l. l ++ 10 ∷ []) (sym e)
+is_frame f = record { word = f.word; terms = f.frame }

@@ -2,7 +2,6 @@ mod Appends
 pub mod Cuts
 pub mod Digits
 pub mod Exact
+mod Ends
 mod Exits
-mod RefusedLines
-mod Spells
 mod Turns

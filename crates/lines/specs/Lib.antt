@@ -1,5 +1,4 @@
 pub mod Answers
-pub mod Appending
 pub mod Fields
 pub mod Frames
 pub mod Numbers

@@ -1,6 +1,7 @@
 -- Reading the line of a frame: what is refused, in which order, and what else it says. Assumes nothing.
-use Rattle.std.specs.Prelude.{◌≡◌, ℕ, ◌%◌, ◌≤◌, cond, List, [], ◌∷◌, length, take, drop, Some, None, Ok, Err, Option, Result, MatchResult, ◌==◌, nat_le}
+use Rattle.std.specs.Prelude.{◌≡◌, ℕ, ◌%◌, cond, List, [], ◌∷◌, length, take, drop, Some, None, Ok, Err, Option, Result, MatchResult, ◌==◌, nat_le}
 use Rattle.std.specs.Option.{ok_or}
+use Rattle.arrayvec.specs.ArrayVec.{ArrayVec}
 use Rattle.frame.specs.declared.terms.Term.{Term}
 use Rattle.frame.specs.declared.refusals.Refusal.{Refusal}
 use Rattle.frame.specs.declared.refusals.Refusal.TheVariants.{UnknownLine, FieldCount, BadField}
@@ -83,5 +84,5 @@ pub record ReadsFrame (line : List ℕ) (r : Result Content Refusal) : Type 0 wh
   pub each : (s : ℕ) (ts : List Term) → IsFrame s ts → line ≡ line_of s ts → r ≡ Ok (content s ts)
 
 -- so many terms from fields: all their numbers, of which the first sixteen terms are kept
-abbrev pub ReadsTerms : List Field → ℕ → Result (List Term) Refusal → Type 0
-ReadsTerms fs count r = MatchResult r (λ kept. (length kept ≡ 16) × ((all : List Term) × (numbers fs ≡ Ok (flat all)) × (length all ≡ count) × (count ≤ 16 → take count kept ≡ all))) (λ e. numbers fs ≡ Err e)
+abbrev pub ReadsTerms : List Field → ℕ → Result (ArrayVec Term) Refusal → Type 0
+ReadsTerms fs count r = MatchResult r (λ kept. (all : List Term) × (numbers fs ≡ Ok (flat all)) × (length all ≡ count) × (kept.items ≡ take 16 all)) (λ e. numbers fs ≡ Err e)

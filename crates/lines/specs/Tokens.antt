@@ -1,7 +1,8 @@
 -- The three kinds of field, and what a token says of its field. Assumes nothing.
 use Rattle.std.specs.Prelude.{◌≡◌, ℕ, cond, List, [], ◌∷◌, Some, None, Option, MatchOption, nat_le}
+use Rattle.lines.specs.declared.tokens.Kind.{Kind}
+use Rattle.lines.specs.declared.tokens.Kind.TheVariants.{Letter, Number, Word}
 use Rattle.lines.specs.declared.tokens.Token.{Token}
-use Rattle.lines.specs.declared.tokens.Token.TheVariants.{Letter, Number, Word}
 use Rattle.lines.specs.declared.fields.Fields.{Fields}
 use Rattle.lines.specs.Fields.{Field, fields_from}
 use Rattle.lines.specs.Numbers.{number_of}
@@ -12,11 +13,17 @@ letter_of [] = None
 letter_of (b ∷ []) = cond (nat_le 65 b) (cond (nat_le b 90) (Some b) None) None
 letter_of (b ∷ c ∷ cs) = None
 
+-- what bytes say: a letter, a number, or neither
+abbrev pub KindOf : List ℕ → Kind → Type 0
+KindOf text (Letter letter) = letter_of text ≡ Some letter
+KindOf text (Number value) = (letter_of text ≡ None) × (number_of text ≡ Some value)
+KindOf text Word = (letter_of text ≡ None) × (number_of text ≡ None)
+
 -- the token is the field's: it borrows its bytes, has its offset, and names its kind
-abbrev pub TokenOf : Field → Token → Type 0
-TokenOf f (Letter text at letter) = (text.now ≡ f.text) × (at ≡ f.at) × (letter_of f.text ≡ Some letter)
-TokenOf f (Number text at value) = (text.now ≡ f.text) × (at ≡ f.at) × (letter_of f.text ≡ None) × (number_of f.text ≡ Some value)
-TokenOf f (Word text at) = (text.now ≡ f.text) × (at ≡ f.at) × (letter_of f.text ≡ None) × (number_of f.text ≡ None)
+pub record TokenOf (f : Field) (t : Token) : Type 0 where
+  pub text : t.text.now ≡ f.text
+  pub at : t.at ≡ f.at
+  pub kind : KindOf f.text t.kind
 
 -- the fields that are still to come
 abbrev pub to_come : Fields → List Field

@@ -1,5 +1,6 @@
 //! The fields of a line, one after the other.
 ghost use Rattle.std.specs.Prelude.{◌≡◌, length};
+ghost use Rattle.std.specs.Iterator.{item_count};
 ghost use Rattle.lines.specs.Fields.{split, CutAt, fields_of};
 ghost use Rattle.lines.specs.Tokens.{to_come, Next};
 
@@ -7,6 +8,8 @@ use super::parts::part_end;
 use super::tokens::Token;
 
 // The fields of a line that are still to come: the next begins at `at`, and none does past the line's end.
+// The whole line and an offset, and not the rest alone: a token has its offset in the line.
+// No view (`Model`): a type with a lifetime and a view is not `Copy`.
 #[derive(Clone, Copy)]
 pub struct Fields<'a> {
     line: &'a [u8],
@@ -18,13 +21,7 @@ pub fn count_fields(line: &[u8]) -> usize
     ensures value { result ≡ length (fields_of line.now) }
     ensures cut { CutAt 44 line.now (split 44 line.now) }
 {
-    let mut count = 1;
-    for byte in line {
-        if *byte == b',' {
-            count += 1;
-        }
-    }
-    count
+    1 + line.iter().filter(|byte| **byte == b',').count()
 }
 
 impl<'a> Fields<'a> {
@@ -33,11 +30,17 @@ impl<'a> Fields<'a> {
     {
         Fields { line, at: 0 }
     }
+}
+
+impl<'a> Iterator for Fields<'a> {
+    type Item = Token<'a>;
+
+    ghost next_gives = { λ before result after. Next (to_come before) result (to_come after) };
+
+    ghost remaining = { item_count to_come };
 
     // The next field; none after the last.
-    pub fn next(&mut self) -> Option<Token<'a>>
-        ensures gives { Next (to_come self.old) result (to_come self.new) }
-    {
+    fn next(&mut self) -> Option<Token<'a>> {
         if self.at > self.line.len() {
             return None;
         }

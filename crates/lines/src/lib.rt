@@ -2,7 +2,6 @@
 #![tactic(auto)]
 
 pub mod answers;
-mod appending;
 pub mod fields;
 pub mod numbers;
 pub mod parts;

@@ -4,12 +4,13 @@ ghost use Rattle.lines.specs.Tokens.{to_come};
 ghost use Rattle.lines.specs.Reading.{content_of, map_ok, first_letter, first_number, ReadsTerms, read_fields, read, ReadsFrame};
 
 use super::fields::{Fields, count_fields};
-use super::tokens::Token;
+use super::tokens::Kind;
+use arrayvec::ArrayVec;
 use frame::buffers::FrameBuf;
-use frame::checks::{MOST_TERMS, check_terms};
+use frame::checks::MOST_TERMS;
 use frame::frames::Frame;
 use frame::refusals::Refusal;
-use frame::terms::{NO_TERM, Term};
+use frame::terms::Term;
 
 // A line is at most so many bytes when it is read.
 pub const MOST_BYTES: usize = 256;
@@ -19,9 +20,9 @@ fn read_letter(fields: &mut Fields<'_>) -> Option<char>
     ensures value { result ≡ first_letter (to_come fields.old) }
     ensures rest { to_come fields.new ≡ drop 1 (to_come fields.old) }
 {
-    match fields.next() {
-        Some(Token::Letter { letter, .. }) => Some(letter),
-        Some(Token::Number { .. } | Token::Word { .. }) | None => None,
+    match fields.next()?.kind {
+        Kind::Letter(letter) => Some(letter),
+        Kind::Number(_) | Kind::Word => None,
     }
 }
 
@@ -30,24 +31,25 @@ fn read_number(fields: &mut Fields<'_>) -> Result<u16, Refusal>
     ensures value { result ≡ first_number (to_come fields.old) }
     ensures rest { to_come fields.new ≡ drop 1 (to_come fields.old) }
 {
-    match fields.next() {
-        Some(Token::Number { value, .. }) => Ok(value),
-        Some(Token::Letter { at, .. } | Token::Word { at, .. }) => Err(Refusal::BadField(at)),
-        None => Err(Refusal::FieldCount),
+    let token = fields.next().ok_or(Refusal::FieldCount)?;
+    match token.kind {
+        Kind::Number(value) => Ok(value),
+        Kind::Letter(_) | Kind::Word => Err(Refusal::BadField(token.at)),
     }
 }
 
 // So many terms from the fields to come. A frame has at most sixteen, so no more are kept.
-fn read_terms(mut fields: Fields<'_>, count: usize) -> Result<[Term; MOST_TERMS], Refusal>
+// Fields and a number, here and below: the number is counted once for the whole line, and a struct would carry it to two calls.
+fn read_terms(mut fields: Fields<'_>, count: usize) -> Result<ArrayVec<Term, MOST_TERMS>, Refusal>
     requires { length (to_come fields) ≡ count + count }
     ensures { ReadsTerms (to_come fields.entry) count result }
 {
-    let mut terms = [NO_TERM; MOST_TERMS];
-    for i in 0..count {
+    let mut terms = ArrayVec::new();
+    for _ in 0..count {
         let minute = read_number(&mut fields)?;
         let weight = read_number(&mut fields)?;
-        if i < MOST_TERMS {
-            terms[i] = Term { minute, weight };
+        if !terms.is_full() {
+            terms.push(Term { minute, weight });
         }
     }
     Ok(terms)
@@ -67,9 +69,8 @@ fn read_fields(mut fields: Fields<'_>, count: usize) -> Result<FrameBuf, Refusal
     if pairs > MOST_TERMS {
         return Err(Refusal::TermCount);
     }
-    let terms = &terms[0..pairs];
-    check_terms(terms)?;
-    Ok(FrameBuf::new(&Frame::new(sum, terms)))
+    let frame = Frame::check(sum, terms.as_slice())?;
+    Ok(FrameBuf::from(&frame))
 }
 
 // The frame that a line carries.
@@ -81,11 +82,8 @@ pub fn read_frame(line: &[u8]) -> Result<FrameBuf, Refusal>
         return Err(Refusal::UnknownLine);
     }
     let mut fields = Fields::new(line);
-    let Some(letter) = read_letter(&mut fields) else {
+    let Some('F') = read_letter(&mut fields) else {
         return Err(Refusal::UnknownLine);
     };
-    match letter {
-        'F' => read_fields(fields, count_fields(line) - 1),
-        _ => Err(Refusal::UnknownLine),
-    }
+    read_fields(fields, count_fields(line) - 1)
 }

@@ -1,28 +1,40 @@
 //! A field as a token.
-ghost use Rattle.lines.specs.Tokens.{TokenOf};
+ghost use Rattle.lines.specs.Tokens.{KindOf, TokenOf};
 
 use super::numbers::number;
 
-// A field by its kind: its part of the line, the offset of its first byte, and what it says.
-#[derive(Clone, Copy)]
-pub enum Token<'a> {
+// What a field says.
+#[derive(Clone, Copy, PartialEq, Eq, Debug)]
+pub enum Kind {
     // one byte from A to Z
-    Letter {
-        text: &'a [u8],
-        at: usize,
-        letter: char,
-    },
+    Letter(char),
     // a decimal number from 0 to 65535 without leading zeros
-    Number {
-        text: &'a [u8],
-        at: usize,
-        value: u16,
-    },
+    Number(u16),
     // any other field, also an empty one
-    Word {
-        text: &'a [u8],
-        at: usize,
-    },
+    Word,
+}
+
+// A field: its part of the line, the offset of its first byte, and what it says.
+#[derive(Clone, Copy, PartialEq, Eq, Debug)]
+pub struct Token<'a> {
+    pub text: &'a [u8],
+    pub at: usize,
+    pub kind: Kind,
+}
+
+impl Kind {
+    // What a field's bytes say.
+    fn of(text: &[u8]) -> Kind
+        ensures { KindOf text.now result }
+    {
+        if let Some(value) = number(text) {
+            return Kind::Number(value);
+        }
+        match text {
+            [letter @ b'A'..=b'Z'] => Kind::Letter(char::from(*letter)),
+            _ => Kind::Word,
+        }
+    }
 }
 
 impl<'a> Token<'a> {
@@ -30,16 +42,7 @@ impl<'a> Token<'a> {
     pub fn new(text: &'a [u8], at: usize) -> Token<'a>
         ensures { TokenOf (record { at = at; text = text.now }) result }
     {
-        if let Some(value) = number(text) {
-            return Token::Number { text, at, value };
-        }
-        if text.len() == 1 && text[0] >= b'A' && text[0] <= b'Z' {
-            return Token::Letter {
-                text,
-                at,
-                letter: char::from(text[0]),
-            };
-        }
-        Token::Word { text, at }
+        let kind = Kind::of(text);
+        Token { text, at, kind }
     }
 }

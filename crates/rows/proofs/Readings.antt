@@ -1,21 +1,8 @@
 -- What the reading calls tell. Assumes nothing.
-use Rattle.std.proofs.Common.{◌≡◌, ℕ, zero, suc, ◌+◌, ◌<◌, ◌≤◌, List, [], ◌∷◌, length, get_or, drop, Some, None, refl, add-one, arith}
+use Rattle.std.proofs.Common.{◌≡◌, ℕ, zero, suc, ◌+◌, ◌<◌, List, [], ◌∷◌, get_or, drop, refl, add-one, take, not-suc-le-zero, le_of_suc-le-suc}
 use Rattle.std.specs.List.{slice_get}
-use Rattle.frame.proofs.Apart.{some_none, none_some}
+use Rattle.std.specs.Option.{MatchOption}
 use Rattle.rows.specs.Systems.{Row, System, empty_row, row_at, term_in, term_of}
-
--- a place of a list
-pub nth_some : {X : Type 0} (xs : List X) (k : ℕ) (x : X) → Some x ≡ slice_get xs k → (k < length xs) × (drop k xs ≡ x ∷ drop (k + 1) xs)
-nth_some [] k x e = absurd (some_none x e)
-nth_some (y ∷ ys) zero x e = (omega arith, cc)
-nth_some (y ∷ ys) (suc k) x e =
-    let p = nth_some ys k x e in
-    (omega arith, rw (add-one (suc k)) (rw (add-one k) at p.1))
-
-pub nth_none : {X : Type 0} (xs : List X) (k : ℕ) → None ≡ slice_get xs k → length xs ≤ k
-nth_none [] k e = omega arith
-nth_none (y ∷ ys) zero e = absurd (none_some y e)
-nth_none (y ∷ ys) (suc k) e = let p = nth_none ys k e in omega arith
 
 -- the rows of a list, as they are read
 pub read_term : (S : System) (i k : ℕ) → term_of S i k ≡ slice_get (row_at S i).terms k
@@ -25,3 +12,11 @@ read_term S i k = walk S.rows i
     walk [] i = refl
     walk (r ∷ rs) zero = refl
     walk (r ∷ rs) (suc i) = walk rs i
+
+-- the next of the elements from k up to n
+pub next_left : {X : Type 0} (xs : List X) (k n : ℕ) → k < n → MatchOption (slice_get xs k) ((drop k (take n xs) ≡ []) × (drop (k + 1) (take n xs) ≡ [])) (λ x. drop k (take n xs) ≡ x ∷ drop (k + 1) (take n xs))
+next_left xs k zero h = absurd (not-suc-le-zero h)
+next_left [] zero (suc n) h = (refl, refl)
+next_left [] (suc k) (suc n) h = (refl, rw (add-one (suc k)) refl)
+next_left (x ∷ xs) zero (suc n) h = refl
+next_left {X = X} (x ∷ xs) (suc k) (suc n) h = let rest = next_left {X = X} xs k n (le_of_suc-le-suc h) in rw (add-one (suc k)) (rw (add-one k) at rest)

@@ -1,5 +1,6 @@
 -- What the calls of a ledger answer and leave. Assumes nothing.
-use Rattle.std.specs.Prelude.{ℕ, suc, ◌≤◌, Bool, cond, List, [], ◌∷◌, ◌++◌, length, Some, None, Ok, Err, Option, Result, nat_lt, slice_set}
+use Rattle.std.specs.Prelude.{ℕ, ◌≤◌, Bool, cond, List, [], ◌∷◌, ◌++◌, length, Some, None, Ok, Err, Option, Result, nat_le, nat_lt, slice_set}
+use Rattle.std.specs.List.{position_from}
 use Rattle.frame.specs.declared.terms.Term.{Term}
 use Rattle.frame.specs.declared.frames.Frame.{Frame}
 use Rattle.frame.specs.declared.refusals.Refusal.{Refusal}
@@ -13,8 +14,7 @@ row_of f = record { sum = sum_of f; terms = terms_of f }
 
 -- the number of the first term, counted from `at`, whose minute is not below m
 abbrev pub first_beyond : ℕ → ℕ → List Term → Option ℕ
-first_beyond m at [] = None
-first_beyond m at (t ∷ ts) = cond (nat_lt t.minute m) (first_beyond m (suc at) ts) (Some at)
+first_beyond m at ts = position_from (λ t. nat_le m t.minute) at ts
 
 -- take's answer with n rows there: the first term beyond the width goes before a full ledger
 abbrev pub admitted : Option ℕ → Bool → ℕ → Result ℕ Refusal

@@ -7,3 +7,4 @@ pub mod Slots
 pub mod Tables
 pub mod SlotRows
 pub mod Beyond
+pub mod RowTerms

@@ -1,9 +1,10 @@
 -- The rows of a table's slots. Assumes nothing.
-use Rattle.std.specs.Prelude.{◌≡◌, ℕ, ◌+◌, ◌<◌, ◌≤◌, List, [], ◌∷◌, ◌++◌, map, length, take, Some, None, Ok, nat_lt, slice_index_or, slice_set}
+use Rattle.std.specs.Prelude.{◌≡◌, ℕ, ◌+◌, ◌<◌, ◌≤◌, List, map, length, take, Some, None, Ok, Option, nat_lt, slice_index_or, slice_set}
 use Rattle.std.proofs.Common.{sym, ap, subst, ◌∙◌, inl, inr, arith, lit≤, not-suc-le-zero}
 use Rattle.std.proofs.Math.Seq.{take-set-lt}
+use Rattle.std.proofs.lemmas.List.{length-map, length-take-le, get_or-map, get_or-take, get_or-set_same, get_or-set_other, map-set, get_or_default, map_push, take_more_set}
+use Rattle.std.specs.Prelude.{[], ◌∷◌, ◌++◌}
 use Rattle.std.specs.List.{slice_get}
-use Rattle.std.proofs.lemmas.List.{length-map, length-take-le, get_or_default, get_or-map, get_or-take, get_or-set_same, get_or-set_other, map-set, map_push, take_more_set}
 use Rattle.std.proofs.lemmas.Option.{slice_get-get_or, slice_get_past}
 use Rattle.std.proofs.lemmas.Bool.{cases_eq}
 use Rattle.frame.specs.declared.frames.Frame.{Frame}
@@ -11,9 +12,6 @@ use Rattle.frame.specs.declared.buffers.FrameBuf.{FrameBuf}
 use Rattle.frame.specs.Frames.{minute_at}
 use Rattle.frame.specs.Parts.{sum_of, terms_of}
 use Rattle.frame.specs.Owned.{sum_in, terms_in}
-use Rattle.frame.proofs.Fronts.{held_terms}
-use Rattle.rows.specs.declared.slots.Slot.{Slot}
-use Rattle.rows.specs.declared.slots.Slot.TheVariants.{Taken, Struck}
 use Rattle.rows.specs.declared.tables.Table.{Table}
 use Rattle.rows.specs.Systems.{empty_row, WellFormedRow, WellFormed}
 use Rattle.rows.specs.Ledgers.{LimitInRange, row_of, first_beyond, admitted, take_answer}
@@ -22,20 +20,20 @@ use Rattle.rows.specs.Tables.{system_of}
 use Rattle.rows.specs.Beyond.{taken_below, taken_room, taken_number}
 
 -- the rows of the first n slots
-module _ (n : ℕ) (slots : List Slot) (fits : n ≤ length slots) where
+module _ (n : ℕ) (slots : List (Option FrameBuf)) (fits : n ≤ length slots) where
   pub row_count : length (map slot_row (take n slots)) ≡ n
   row_count = length-map (take n slots) slot_row ∙ length-take-le n slots fits
 
-  pub slot_at : (i : ℕ) → i < n → slice_index_or (map slot_row (take n slots)) i empty_row ≡ slot_row (slice_index_or slots i Struck)
+  pub slot_at : (i : ℕ) → i < n → slice_index_or (map slot_row (take n slots)) i empty_row ≡ slot_row (slice_index_or slots i None)
   slot_at i h =
       let long = length-take-le n slots fits in
-      get_or-map slot_row (take n slots) i Struck empty_row (omega arith) ∙ ap slot_row (get_or-take n slots i Struck h)
+      get_or-map slot_row (take n slots) i None empty_row (omega arith) ∙ ap slot_row (get_or-take n slots i None h)
 
   -- whatever is read past the last slot
-  pub row_found : (i : ℕ) (d : Slot) → i < n → slice_get (map slot_row (take n slots)) i ≡ Some (slot_row (slice_index_or slots i d))
+  pub row_found : (i : ℕ) (d : Option FrameBuf) → i < n → slice_get (map slot_row (take n slots)) i ≡ Some (slot_row (slice_index_or slots i d))
   row_found i d h =
       let long = row_count in
-      slice_get-get_or (map slot_row (take n slots)) i empty_row (omega arith) ∙ ap Some (slot_at i h ∙ ap slot_row (get_or_default slots i Struck d (omega arith)))
+      slice_get-get_or (map slot_row (take n slots)) i empty_row (omega arith) ∙ ap Some (slot_at i h ∙ ap slot_row (get_or_default slots i None d (omega arith)))
 
   pub row_missing : (i : ℕ) → n ≤ i → slice_get (map slot_row (take n slots)) i ≡ None
   row_missing i h = let long = row_count in slice_get_past (map slot_row (take n slots)) i (omega arith)
@@ -44,19 +42,18 @@ module _ (n : ℕ) (slots : List Slot) (fits : n ≤ length slots) where
 pub slots_fit : (t : Table) → t.count ≤ length t.slots
 slots_fit t = omega (arith, t.room, t.few)
 
--- what a strike and a take leave
-pub rows_struck : (n : ℕ) (slots : List Slot) (i : ℕ) → i < n → map slot_row (take n (slice_set slots i Struck)) ≡ slice_set (map slot_row (take n slots)) i empty_row
-rows_struck n slots i h = ap (map slot_row) (take-set-lt n slots i Struck h) ∙ map-set slot_row (take n slots) i Struck
+-- what a strike leaves
+pub rows_struck : (n : ℕ) (slots : List (Option FrameBuf)) (i : ℕ) → i < n → map slot_row (take n (slice_set slots i None)) ≡ slice_set (map slot_row (take n slots)) i empty_row
+rows_struck n slots i h = ap (map slot_row) (take-set-lt n slots i None h) ∙ map-set slot_row (take n slots) i None
 
-pub rows_taken : (n : ℕ) (slots : List Slot) (s : Slot) → n < length slots → map slot_row (take (n + 1) (slice_set slots n s)) ≡ map slot_row (take n slots) ++ (slot_row s ∷ [])
+pub rows_taken : (n : ℕ) (slots : List (Option FrameBuf)) (s : Option FrameBuf) → n < length slots → map slot_row (take (n + 1) (slice_set slots n s)) ≡ map slot_row (take n slots) ++ (slot_row s ∷ [])
 rows_taken n slots s h = ap (map slot_row) (take_more_set slots n s h) ∙ map_push slot_row (take n slots) s
 
 -- a slot's row is well-formed once its minutes are below the width
-pub slot_formed : (m : ℕ) (s : Slot) → ((k : ℕ) → k < length (slot_row s).terms → minute_at (slot_row s).terms k < m) → WellFormedRow m (slot_row s)
-slot_formed m (Taken held) below =
-    let f = held_terms held in
-    record { word = held.word; below = below; rising = f.rising; words = f.words }
-slot_formed m Struck below =
+pub slot_formed : (m : ℕ) (s : Option FrameBuf) → ((k : ℕ) → k < length (slot_row s).terms → minute_at (slot_row s).terms k < m) → WellFormedRow m (slot_row s)
+slot_formed m (Some held) below =
+    record { word = held.word; below = below; rising = held.frame.rising; words = held.frame.words }
+slot_formed m None below =
     record { word = omega arith; below = below; rising = λ j k l h. absurd (not-suc-le-zero h); words = λ k h. absurd (not-suc-le-zero h) }
 
 pub table_formed : (t : Table) → WellFormed (system_of t)
@@ -69,7 +66,7 @@ table_formed t =
       few_rows = omega (arith, t.few);
       each = λ i h.
           let l : i < t.count = omega arith in
-          subst (WellFormedRow t.width.number) (sym (slot_at t.count t.slots fits i l)) (slot_formed t.width.number (slice_index_or t.slots i Struck) (λ k. t.below i k l));
+          subst (WellFormedRow t.width.number) (sym (slot_at t.count t.slots fits i l)) (slot_formed t.width.number (slice_index_or t.slots i None) (λ k. t.below i k l));
     }
 
 -- a table has room for 96 rows
@@ -94,20 +91,20 @@ module _ (t : Table) (held : FrameBuf) (f : Frame) (row : ℕ) (sums : sum_in he
       let room = taken_room (system_of t) 96 (row_of f) row admits in
       omega arith
 
-  pub still_below : (i k : ℕ) → i < row + 1 → k < length (slot_row (slice_index_or (slice_set t.slots row (Taken held)) i Struck)).terms → minute_at (slot_row (slice_index_or (slice_set t.slots row (Taken held)) i Struck)).terms k < t.width.number
+  pub still_below : (i k : ℕ) → i < row + 1 → k < length (slot_row (slice_index_or (slice_set t.slots row (Some held)) i None)).terms → minute_at (slot_row (slice_index_or (slice_set t.slots row (Some held)) i None)).terms k < t.width.number
   still_below i k h =
       elim (cases_eq i row) [
         | inl same ↦
             let there : row < length t.slots = omega (arith, t.room, has_room) in
-            rw (same, get_or-set_same t.slots row (Taken held) Struck there, holds) (taken_below (system_of t) 96 (row_of f) row admits k)
+            rw (same, get_or-set_same t.slots row (Some held) None there, holds) (taken_below (system_of t) 96 (row_of f) row admits k)
         | inr other ↦
             let l : i < t.count = omega (arith, next_row) in
-            rw (get_or-set_other t.slots row i (Taken held) Struck other) (t.below i k l)
+            rw (get_or-set_other t.slots row i (Some held) None other) (t.below i k l)
       ]
 
-  pub rows_after : map slot_row (take (row + 1) (slice_set t.slots row (Taken held))) ≡ map slot_row (take t.count t.slots) ++ (row_of f ∷ [])
+  pub rows_after : map slot_row (take (row + 1) (slice_set t.slots row (Some held))) ≡ map slot_row (take t.count t.slots) ++ (row_of f ∷ [])
   rows_after =
-      rows_taken row t.slots (Taken held) (omega (arith, t.room, has_room))
-      ∙ ap (λ n. map slot_row (take n t.slots) ++ (slot_row (Taken held) ∷ [])) next_row
+      rows_taken row t.slots (Some held) (omega (arith, t.room, has_room))
+      ∙ ap (λ n. map slot_row (take n t.slots) ++ (slot_row (Some held) ∷ [])) next_row
       ∙ ap (λ ts. map slot_row (take t.count t.slots) ++ (record { sum = sum_in held; terms = ts } ∷ [])) holds
       ∙ ap (λ b. map slot_row (take t.count t.slots) ++ (record { sum = b; terms = terms_of f } ∷ [])) sums

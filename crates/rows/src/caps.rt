@@ -3,7 +3,7 @@ ghost use Rattle.std.specs.Prelude.{◌≡◌};
 ghost use Rattle.rows.specs.Ledgers.{row_of, take_answer, after_take};
 ghost use Rattle.rows.specs.Caps.{cap_system, cap_limit, smaller_limit, PileLaw};
 
-use crate::ledgers::{Ledger, first_beyond};
+use crate::ledgers::{Ledger, admit};
 use crate::reading::Rows;
 use crate::sizes::Limit;
 use frame::frames::Frame;
@@ -36,8 +36,7 @@ impl<L> Cap<L> {
     pub fn into_below(self) -> L
         ensures { result ≡ self.below }
     {
-        let Cap { own: _, below } = self;
-        below
+        self.below
     }
 }
 
@@ -77,13 +76,8 @@ impl<L: Ledger> Ledger for Cap<L> {
     }
 
     fn take(&mut self, frame: &Frame<'_>) -> Result<usize, Refusal> {
-        if self.below.row_count() < self.own.number() {
-            return self.below.take(frame);
-        }
-        match first_beyond(frame, self.below.width()) {
-            Some(term) => Err(Refusal::MinuteBeyondWidth(term)),
-            None => Err(Refusal::LedgerFull),
-        }
+        admit(frame, self.width(), self.row_count(), self.own.number())?;
+        self.below.take(frame)
     }
 
     fn strike(&mut self, row: usize) -> Result<(), Refusal> {

@@ -40,24 +40,19 @@ pub trait Ledger: Rows {
 pub fn first_beyond(frame: &Frame<'_>, width: usize) -> Option<usize>
     ensures { result ≡ first_beyond width 0 (terms_of frame.now) }
 {
-    for (number, term) in frame.terms().iter().enumerate() {
-        if usize::from(term.minute) >= width {
-            return Some(number);
-        }
-    }
-    None
+    frame
+        .terms()
+        .iter()
+        .position(|term| width <= usize::from(term.minute))
 }
 
 // The number that a frame's row gets in a ledger of this width and limit that holds `rows` rows, or the refusal.
 pub fn admit(frame: &Frame<'_>, width: usize, rows: usize, limit: usize) -> Result<usize, Refusal>
     ensures { result ≡ admitted (first_beyond width 0 (terms_of frame.now)) (nat_lt rows limit) rows }
 {
-    if let Some(term) = first_beyond(frame, width) {
-        return Err(Refusal::MinuteBeyondWidth(term));
-    }
-    if rows < limit {
-        Ok(rows)
-    } else {
-        Err(Refusal::LedgerFull)
+    match first_beyond(frame, width) {
+        Some(term) => Err(Refusal::MinuteBeyondWidth(term)),
+        None if rows < limit => Ok(rows),
+        None => Err(Refusal::LedgerFull),
     }
 }

@@ -5,6 +5,6 @@ pub mod caps;
 pub mod ledgers;
 pub mod reading;
 pub mod sizes;
-pub mod slots;
 pub mod tables;
+pub mod terms;
 pub mod values;

@@ -1,9 +1,10 @@
 //! Sizes that are checked before anything is made of them.
 ghost use Rattle.std.specs.Prelude.{◌≤◌};
 
-pub mod calls;
+use frame::refusals::Refusal;
 
 // A number from 1 to MOST.
+// Ghost fields and no view (`Model`): the laws of tables and caps read them off the type.
 #[derive(Clone, Copy)]
 pub struct Size<const MOST: usize> {
     number: usize,
@@ -16,3 +17,33 @@ pub type Width = Size<64>;
 
 // How many rows a ledger takes.
 pub type Limit = Size<96>;
+
+// The size of this number, or 16 for one that is not 1 to MOST.
+impl<const MOST: usize> TryFrom<usize> for Size<MOST> {
+    ghost use Rattle.std.specs.Prelude.{◌≡◌};
+    ghost use Rattle.rows.specs.Sizes.{checked, number_in};
+
+    type Error = Refusal;
+
+    ghost try_from_gives = { λ number size. number_in MOST size ≡ checked MOST number };
+
+    fn try_from(number: usize) -> Result<Size<MOST>, Refusal> {
+        if (1..=MOST).contains(&number) {
+            Ok(Size { number })
+        } else {
+            Err(Refusal::SizeOutOfRange)
+        }
+    }
+}
+
+impl<const MOST: usize> Size<MOST> {
+    ghost use Rattle.std.specs.Prelude.{◌≡◌};
+    ghost use Rattle.rows.specs.Sizes.{number_of};
+
+    // Named as what it is; `usize::from` would say no more.
+    pub fn number(&self) -> usize
+        ensures { result ≡ number_of MOST self.now }
+    {
+        self.number
+    }
+}

@@ -1,18 +1,24 @@
 //! A table.
-ghost use Rattle.std.specs.Prelude.{◌≡◌, ℕ, ◌<◌, ◌≤◌, length, slice_index_or};
+ghost use Rattle.std.specs.Prelude.{◌≡◌, ℕ, ◌<◌, ◌≤◌, length, slice_index_or, None};
 ghost use Rattle.frame.specs.Frames.{minute_at};
 ghost use Rattle.rows.specs.Slots.{slot_row};
-ghost use Rattle.rows.specs.declared.slots.Slot.TheVariants.{Struck};
 
+use crate::ledgers::{Ledger, admit};
+use crate::reading::Rows;
 use crate::sizes::Width;
-use crate::slots::Slot;
-
-pub mod calls;
+use frame::buffers::FrameBuf;
+use frame::frames::Frame;
+use frame::refusals::Refusal;
+use frame::terms::Term;
 
 // A table holds up to MOST_ROWS rows.
 pub const MOST_ROWS: usize = 96;
 
+// A row's place in a table: the frame that was taken, or none once it is struck.
+type Slot = Option<FrameBuf>;
+
 // A table: a ledger in memory of its own. Its rows are the first `count` slots.
+// An array and a count, since a vector of fixed capacity is not `Copy`.
 #[derive(Clone, Copy)]
 pub struct Table {
     width: Width,
@@ -20,5 +26,101 @@ pub struct Table {
     slots: [Slot; MOST_ROWS],
     ghost room: { length slots ≡ 96 },
     ghost few: { count ≤ 96 },
-    ghost below: { (i k : ℕ) → i < count → k < length (slot_row (slice_index_or slots i Struck)).terms → minute_at (slot_row (slice_index_or slots i Struck)).terms k < width.number },
+    ghost below: { (i k : ℕ) → i < count → k < length (slot_row (slice_index_or slots i None)).terms → minute_at (slot_row (slice_index_or slots i None)).terms k < width.number },
+}
+
+impl Table {
+    ghost use Rattle.std.specs.Prelude.{◌≡◌, [], take};
+    ghost use Rattle.std.specs.List.{slice_get};
+    ghost use Rattle.std.specs.Option.{option_map};
+    ghost use Rattle.rows.specs.Tables.{system_of};
+
+    // A table without rows.
+    pub fn new(width: Width) -> Table
+        ensures { system_of result ≡ record { width = width.number; rows = [] } }
+    {
+        Table {
+            width,
+            count: 0,
+            slots: [None; MOST_ROWS],
+        }
+    }
+
+    // A row's slot; none where there is no such row.
+    fn slot(&self, row: usize) -> Option<&Slot>
+        ensures { option_map (λ slot. slot.now) result ≡ slice_get (take self.now.count self.now.slots) row }
+    {
+        self.slots[..self.count].get(row)
+    }
+}
+
+impl Rows for Table {
+    ghost use Rattle.rows.specs.Tables.{system_of};
+    ghost use Rattle.rows.specs.SlotRows.{table_formed};
+
+    ghost system = { system_of };
+
+    ghost formed = { table_formed };
+
+    fn width(&self) -> usize {
+        self.width.number()
+    }
+
+    fn row_count(&self) -> usize {
+        self.count
+    }
+
+    fn term_count(&self, row: usize) -> Option<usize> {
+        Some(
+            self.slot(row)?
+                .as_ref()
+                .map_or(0, |held| held.frame().count()),
+        )
+    }
+
+    fn term(&self, row: usize, number: usize) -> Option<Term> {
+        self.slot(row)?
+            .as_ref()
+            .and_then(|held| held.frame().term(number))
+    }
+
+    fn sum(&self, row: usize) -> Option<u16> {
+        Some(
+            self.slot(row)?
+                .as_ref()
+                .map_or(0, |held| held.frame().sum()),
+        )
+    }
+}
+
+impl Ledger for Table {
+    ghost use Rattle.rows.specs.SlotRows.{table_limited};
+
+    ghost most = { λ _. 96 };
+
+    ghost limited = { table_limited };
+
+    fn limit(&self) -> usize {
+        MOST_ROWS
+    }
+
+    fn take(&mut self, frame: &Frame<'_>) -> Result<usize, Refusal> {
+        let row = admit(frame, self.width.number(), self.count, MOST_ROWS)?;
+        self.slots[row] = Some(FrameBuf::from(frame));
+        self.count = row + 1;
+        Ok(row)
+    }
+
+    fn strike(&mut self, row: usize) -> Result<(), Refusal> {
+        // By index: a slot that `get_mut` lends out of a struct with ghost fields is not covered by the check.
+        if row >= self.count {
+            return Err(Refusal::NoSuchRow);
+        }
+        self.slots[row] = None;
+        Ok(())
+    }
+
+    fn clear(&mut self) {
+        self.count = 0;
+    }
 }

@@ -4,24 +4,20 @@ ghost use Rattle.rows.specs.Systems.{row_at};
 ghost use Rattle.rows.specs.Values.{choice, entry_of, row_value_of, ValueTells};
 
 use crate::reading::Rows;
+use crate::terms::terms;
 use field::fields::{Field, code_of};
 
 // A[i,c]: the weight at a minute in a row as a code, 0 without such a term; none where there is no such row or minute.
 pub fn entry<F: Field, R: Rows>(rows: &R, row: usize, minute: usize) -> Option<u16>
     ensures { result ≡ entry_of F.Field.ops (R.Rows.system rows.now) row minute }
 {
-    let count = rows.term_count(row)?;
+    let mut terms = terms(rows, row)?;
     if minute >= rows.width() {
         return None;
     }
-    for number in 0..count {
-        if let Some(term) = rows.term(row, number) {
-            if usize::from(term.minute) == minute {
-                return Some(code_of::<F>(term.weight));
-            }
-        }
-    }
-    Some(0)
+    let term = terms.find(|term| usize::from(term.minute) == minute);
+    let weight = term.map_or(0, |term| term.weight);
+    Some(code_of::<F>(weight))
 }
 
 // The code at a minute; 0 where x has none.
@@ -38,13 +34,8 @@ pub fn row_value<F: Field, R: Rows>(rows: &R, row: usize, x: &[u16]) -> Option<u
     ensures tells { ValueTells F.Field.ops (row_at (R.Rows.system rows.now) row) (choice x.now) }
 {
     let sum = rows.sum(row)?;
-    let count = rows.term_count(row)?;
-    let mut total = 0;
-    for number in 0..count {
-        if let Some(term) = rows.term(row, number) {
-            let code = code_at(x, term.minute);
-            total = F::plus(total, F::times(term.weight, code));
-        }
-    }
+    let total = terms(rows, row)?.fold(0, |total, term| {
+        F::plus(total, F::times(term.weight, code_at(x, term.minute)))
+    });
     Some(F::plus(sum, F::negative(total)))
 }

@@ -1,19 +1,18 @@
-use Rattle.std.proofs.Common.{ap, ◌∙◌, arith}
-use Rattle.lines.specs.Answers.{layer_name}
-use Rattle.lines.proofs.RefusedLines.{room_number, room_place, puts_refusal, refusal_short}
+use Rattle.std.proofs.Common.{arith}
+use Rattle.lines.proofs.Appends.{one_letter, short_decimals}
 use Rattle.lines.proofs.answers.put_refusal.Goals as goal
 
-pub put_field-requires : goal.put_field-requires
-put_field-requires c =
-    room_number _ _ _ _ c.requires c.args.refusal _ _ c.place-place.result _ c.letter_for.ensures (c.layer_name.ensures ∙ ap layer_name c.layer.ensures) c.number-number.ensures c.number-number.type_inv c.place-place.ensures c.place-place.type_inv c.put_byte.ensures c.put_bytes.ensures c.put_bytes-2.ensures
+pub push_field-requires : goal.push_field-requires
+push_field-requires c =
+    let letter = one_letter _ _ _ (c.push.ensures.ascii c.letter_for.ensures.ascii) c.clear.ensures in
+    omega (arith, short_decimals c.number.result 0 (omega arith) (omega arith))
 
-pub put_field-requires-2 : goal.put_field-requires-2
-put_field-requires-2 c =
-    room_place _ _ _ _ c.requires c.args.refusal _ _ _ _ c.letter_for.ensures (c.layer_name.ensures ∙ ap layer_name c.layer.ensures) c.number-number.ensures c.number-number.type_inv c.place-place.ensures c.place-place.type_inv c.put_byte.ensures c.put_bytes.ensures c.put_bytes-2.ensures _ c.put_field.ensures
+pub push_field-requires-2 : goal.push_field-requires-2
+push_field-requires-2 c =
+    let letter = one_letter _ _ _ (c.push.ensures.ascii c.letter_for.ensures.ascii) c.clear.ensures in
+    omega (arith, short_decimals c.number.result c.place.result (omega arith) (omega arith))
 
-pub returns : goal.returns
-returns c =
-    record {
-      puts = puts_refusal _ _ _ _ c.requires c.args.refusal _ _ _ _ c.letter_for.ensures (c.layer_name.ensures ∙ ap layer_name c.layer.ensures) c.number-number.ensures c.number-number.type_inv c.place-place.ensures c.place-place.type_inv c.put_byte.ensures c.put_bytes.ensures c.put_bytes-2.ensures _ c.put_field.ensures _ c.put_field-2.ensures;
-      short = refusal_short c.args.refusal (omega (arith, c.number-number.ensures, c.number-number.type_inv)) (omega (arith, c.place-place.ensures, c.place-place.type_inv));
-    }
+pub returns-clause-short : goal.returns-clause-short
+returns-clause-short c =
+    let letter = one_letter _ _ _ (c.push.ensures.ascii c.letter_for.ensures.ascii) c.clear.ensures in
+    omega (arith, short_decimals c.number.result c.place.result (omega arith) (omega arith))

@@ -2,5 +2,5 @@ use Rattle.std.proofs.Common.{◌≡◌, ◌<◌, drop}
 use Rattle.lines.specs.Numbers.{read_on}
 use Rattle.lines.proofs.numbers.digits_value.Given as goal
 
-abbrev pub invariant-loop-digit : goal.invariant-loop-digit
-invariant-loop-digit l = (read_on l.n (drop l.digit-index l.text) ≡ read_on 0 l.text) × (l.n < 65536)
+abbrev pub invariant-loop-byte : goal.invariant-loop-byte
+invariant-loop-byte l = (read_on l.n (drop l.byte-index l.text) ≡ read_on 0 l.text) × (l.n < 65536)

@@ -1,19 +1,27 @@
-use Rattle.std.proofs.Common.{refl}
+use Rattle.std.proofs.Common.{◌≡◌, arith}
+use Rattle.std.proofs.lemmas.Fmt.{length-decimal-le}
+use Rattle.std.proofs.lemmas.Grind.{common_steps}
 use Rattle.frame.specs.Parts.{sum_of, terms_of}
-use Rattle.lines.proofs.Appends.{room_sum, room_terms, puts_line}
+use Rattle.lines.specs.Frames.{line_of}
+use Rattle.lines.proofs.Appends.{one_letter, frame_room}
+use Rattle.lines.proofs.Exact.{line_short, is_frame}
 use Rattle.lines.proofs.writing.put_frame.Goals as goal
 
-pub put_field-requires : goal.put_field-requires
-put_field-requires c =
-    let f = c.args.frame.now in
-    room_sum _ _ (sum_of f) _ (terms_of f) (terms_of f) c.requires c.put_byte.ensures c.sum.ensures refl
+pub push_field-requires : goal.push_field-requires
+push_field-requires c =
+    let letter = one_letter _ _ 70 (c.push.ensures.ascii (omega arith)) c.clear.ensures in
+    omega (arith, length-decimal-le 5 c.sum.result (omega arith) (omega arith) (omega arith))
 
-pub put_terms-requires : goal.put_terms-requires
-put_terms-requires c =
-    let f = c.args.frame.now in
-    room_terms _ _ (sum_of f) _ (terms_of f) _ c.requires c.put_byte.ensures c.sum.ensures c.terms.ensures _ c.put_field.ensures
+pub push_field-requires-in-loop-term : goal.push_field-requires-in-loop-term
+push_field-requires-in-loop-term c =
+    omega (arith, frame_room c.args.frame.now _ c.loop-term.line.bytes c.loop-term.term-index c.terms-term-items.ensures c.loop-term.invariant c.loop-term-test.true)
 
-pub returns : goal.returns
-returns c =
+pub push_field-requires-in-loop-term-2 : goal.push_field-requires-in-loop-term-2
+push_field-requires-in-loop-term-2 c =
+    omega (arith, frame_room c.args.frame.now _ c.loop-term.line.bytes c.loop-term.term-index c.terms-term-items.ensures c.loop-term.invariant c.loop-term-test.true, c.push_field-in-loop-term.ensures.len)
+
+pub returns-clause-short : goal.returns-clause-short
+returns-clause-short c =
     let f = c.args.frame.now in
-    puts_line _ _ (sum_of f) _ (terms_of f) _ c.requires c.put_byte.ensures c.sum.ensures c.terms.ensures _ c.put_field.ensures _ c.put_terms.ensures
+    let is : c.loop-term.line.bytes ≡ line_of (sum_of f) (terms_of f) = grind (arith, common_steps) in
+    rw is (line_short _ _ (is_frame f))

@@ -1,27 +1,17 @@
-use Rattle.std.proofs.Common.{◌<◌, Some, sym, ap, ◌∙◌, arith}
-use Rattle.rows.proofs.RowValues.{weight_found, weight_later, weight_none, term_missing}
+use Rattle.std.proofs.Common.{Some, ◌%◌, ◌==◌, sym, ap, ◌∙◌, arith, rules, tests}
+use Rattle.std.proofs.lemmas.Iterator.Consumers.{YieldsList-from_first}
+use Rattle.std.proofs.lemmas.Iterator.Adapters.{option_map_id}
+use Rattle.std.proofs.lemmas.Iterator.Search.{find_from_yields_List}
+use Rattle.frame.specs.declared.terms.Term.{Term}
+use Rattle.rows.specs.Systems.{row_at}
+use Rattle.rows.specs.RowTerms.{terms_left}
+use Rattle.rows.proofs.RowValues.{found_terms, weight_found, entry_there}
 use Rattle.rows.proofs.values.entry.Goals as goal
-use Rattle.rows.proofs.values.entry.Goals.{in-Some+else-from-minute, in_default}
-
-pub returns-then-from-minute : goal.returns-then-from-minute
-returns-then-from-minute g c =
-    let S = g.R.Rows.system c.args.rows.now in
-    let inside : c.args.minute < S.width = omega (arith, c.if-minute-width.false, c.width.ensures) in
-    ap Some c.code_of.ensures
-    ∙ weight_found S c.args.row c.in_ok-count.count c.in_ok-count.ensures g.F.Field.ops c.args.minute inside c.loop-number.number c.in-Some.term c.in-Some.ensures (sym c.from.ensures ∙ c.if-from-minute.true) c.loop-number.invariant
-
-pub loop-number-preserved : goal.loop-number-preserved
-loop-number-preserved g c =
-    let S = g.R.Rows.system c.args.rows.now in
-    let inside : c.args.minute < S.width = omega (arith, c.if-minute-width.false, c.width.ensures) in
-    elim c.match-term.branch [
-      | in-Some+else-from-minute w ↦
-          weight_later S c.args.row c.in_ok-count.count c.in_ok-count.ensures g.F.Field.ops c.args.minute inside c.loop-number.number w.in-Some.term w.in-Some.ensures (λ e. w.if-from-minute.false (w.from.ensures ∙ e)) c.loop-number.invariant
-      | in_default w ↦ absurd (term_missing S c.args.row c.in_ok-count.count c.in_ok-count.ensures c.loop-number.number w.in_default.ensures c.loop-number-test.true)
-    ]
 
 pub returns : goal.returns
 returns g c =
     let S = g.R.Rows.system c.args.rows.now in
-    let inside : c.args.minute < S.width = omega (arith, c.if-minute-width.false, c.width.ensures) in
-    weight_none S c.args.row c.in_ok-count.count c.in_ok-count.ensures g.F.Field.ops c.args.minute inside c.loop-number.number c.loop-number-test.false c.loop-number.invariant
+    let there = found_terms S.rows c.args.row _ c.in_ok-terms.ensures in
+    let found = find_from_yields_List (λ (t : Term). t.minute == c.args.minute) c.find-term.new.self _ _ c.find-term.ensures.ran (YieldsList-from_first (λ x. x) (terms_left g.R.Rows.system) _ there.1) (λ x b q k. search (rules, tests)) in
+    let weight = weight_found c.args.minute c.map_or-weight.result (row_at S c.args.row).terms c.find-term.result (sym (option_map_id c.find-term.result) ∙ found) (search (rules, tests)) in
+    ap Some (c.code_of.ensures ∙ ap (λ w. w % g.F.Field.ops.q) weight) ∙ sym (entry_there g.F.Field.ops S c.args.row c.args.minute there.0 (omega (arith, c.if-minute-width.false, c.width.ensures)))

@@ -1,12 +1,11 @@
-use Rattle.std.proofs.Common.{arith, rules}
-use Rattle.std.proofs.lemmas.Slice.{overwrites}
-use Rattle.framelog.proofs.Kept.{extended}
+use Rattle.std.proofs.Common.{◌∙◌, ◌++◌, take, ap}
+use Rattle.framelog.proofs.Kept.{kept_front}
 use Rattle.framelog.proofs.buffers.LineBuffer.extend.Goals as goal
 
 pub returns : goal.returns
 returns c =
-    let b = c.args.self.now in
-    extended b.bytes c.args.part.now c.copy_from_slice.new.self b.len c.min-count.result _ b.room b.fits c.min-count.ensures c.copy_from_slice.ensures.after
-
-pub invariant_of-self : goal.invariant_of-self
-invariant_of-self c = record { room = search (rules, overwrites); fits = omega (arith, c.min-count.ensures, c.args.self.now.fits) }
+    let part = c.args.part.now in
+    rw c.unwrap.ensures at c.try_extend_from_slice.ensures.ok
+    ∙ ap (λ n. c.self.inside.bytes.items ++ take n part) c.min-count.ensures
+    ∙ kept_front 257 c.remaining_capacity.result _ part c.remaining_capacity.ensures
+    ∙ ap (λ l. take 257 (l ++ part)) c.self.view_is

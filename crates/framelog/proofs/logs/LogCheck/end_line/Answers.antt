@@ -7,8 +7,8 @@ pub returns-in_err-answer : goal.returns-in_err-answer
 returns-in_err-answer c =
     let p = err_from_is_err_and c.from_residual.result c.from_residual.ensures.1 in
     let none = c.in_err-answer.ensures.value in
-    rw p.1 (keeps_part _ _ _ c.args.part.now c.requires c.extend.ensures, none.0, none.1)
+    rw (p.1, ← c.self.view_is) (keeps_part _ _ _ c.args.part.now c.requires c.extend.ensures, none.0, none.1)
 
 pub returns : goal.returns
 returns c =
-    keeps_line _ _ _ _ c.args.part.now c.text.result.now c.requires c.clear.ensures (c.text.ensures ∙ c.extend.ensures) c.in_ok-answer.ensures.value
+    rw (← c.self.view_is) (keeps_line _ _ _ _ c.args.part.now c.text.result.now c.requires c.clear.ensures (c.text.ensures.value ∙ c.extend.ensures) c.in_ok-answer.ensures.value)

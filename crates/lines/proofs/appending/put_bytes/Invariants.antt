@@ -1,6 +1,0 @@
-use Rattle.std.proofs.Common.{take}
-use Rattle.lines.specs.Appending.{Puts}
-use Rattle.lines.proofs.appending.put_bytes.Given as goal
-
-abbrev pub invariant-loop-byte : goal.invariant-loop-byte
-invariant-loop-byte l = Puts l.initial.out l.out (take l.byte-index l.bytes)
