@@ -11,7 +11,7 @@ pub trait Field {
 
     ghost ops: { Operations };
 
-    // Q as a call, for code that wants a function.
+    // The same number as a call.
     fn size() -> u16
         ensures { result ≡ ops.q }
     {

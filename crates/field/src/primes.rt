@@ -5,7 +5,8 @@ ghost use Rattle.field.specs.Residues.{prime_laws};
 
 use crate::fields::Field;
 
-// Q, where sums and products need 32 bits. That a remainder by it fits 16 bits again is proved at each `as u16`.
+// Q, where sums and products need 32 bits. By `as`: the value of a constant calls nothing.
+// That a result fits 16 bits is proved at each `as u16` below; `try_from` would want an answer for what cannot happen.
 const N: u32 = Prime::Q as u32;
 
 // The inverse of a number from 1 to 65520, by Euclid's algorithm on 65521 and the number. Modulo 65521, the number

@@ -32,7 +32,7 @@ fn inverse_all<F: Field>(a: &[u16], out: &mut [u16])
     }
 }
 
-// C has no generic function, so each field has calls of its own.
+// C has no generic function and takes no struct of slices: each field has calls of its own, each over its slices.
 #[unsafe(no_mangle)]
 pub extern "C" fn prime_times(a: &[u16], b: &[u16], out: &mut [u16])
     ensures { Products (modulo 65521) a.now b.now out.old out.new }

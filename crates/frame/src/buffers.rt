@@ -7,7 +7,7 @@ use super::frames::Frame;
 use super::terms::Term;
 
 // A frame's sum and its terms, in memory of its own: the first `count` of `terms`.
-// An array and a count, since a vector of fixed capacity is not `Copy`.
+// An array and a count: with a vector of fixed capacity the type would lose `Copy`, which it promises.
 #[derive(Clone, Copy)]
 pub struct FrameBuf {
     sum: u16,

@@ -7,6 +7,7 @@ use super::refusals::Refusal;
 use super::terms::Term;
 
 // A weighted sum of minutes. No value of this type exists whose terms the check refuses.
+// Ghost fields and no view (`Model`): with a lifetime and a view the type would lose `Copy`, which it promises.
 #[derive(Clone, Copy)]
 pub struct Frame<'a> {
     sum: u16,
@@ -29,7 +30,7 @@ impl<'a> Frame<'a> {
         Ok(Frame { sum, terms })
     }
 
-    // The frame of terms that the check let pass. It cannot refuse.
+    // The frame of terms that the check let pass. Beside `check`, since it cannot refuse.
     pub fn new(sum: u16, terms: &'a [Term]) -> Frame<'a>
         requires { FrameTerms terms.now }
         ensures sums { sum_of result ≡ sum }

@@ -9,7 +9,7 @@ use super::tokens::Token;
 
 // The fields of a line that are still to come: the next begins at `at`, and none does past the line's end.
 // The whole line and an offset, and not the rest alone: a token has its offset in the line.
-// No view (`Model`): a type with a lifetime and a view is not `Copy`.
+// No view (`Model`): with a lifetime and a view the type would lose `Copy`, which it promises.
 #[derive(Clone, Copy)]
 pub struct Fields<'a> {
     line: &'a [u8],

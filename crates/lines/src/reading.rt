@@ -39,7 +39,7 @@ fn read_number(fields: &mut Fields<'_>) -> Result<u16, Refusal>
 }
 
 // So many terms from the fields to come. A frame has at most sixteen, so no more are kept.
-// Fields and a number, here and below: the number is counted once for the whole line, and a struct would carry it to two calls.
+// Fields with their number, here and below: it is counted once for the line, and a struct would serve two calls.
 fn read_terms(mut fields: Fields<'_>, count: usize) -> Result<ArrayVec<Term, MOST_TERMS>, Refusal>
     requires { length (to_come fields) ≡ count + count }
     ensures { ReadsTerms (to_come fields.entry) count result }

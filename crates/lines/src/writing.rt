@@ -29,7 +29,7 @@ pub(crate) fn push_field<I: Integer>(line: &mut Line, n: I)
     line.push_str(Buffer::new().format(n));
 }
 
-// Makes a line that of a frame.
+// Makes a line that of a frame. Not by `Display` (see `Line`).
 pub(crate) fn put_frame(line: &mut Line, frame: &Frame<'_>)
     ensures value { line.new.bytes ≡ line_of (sum_of frame.now) (terms_of frame.now) }
     ensures short { length line.new.bytes ≤ 256 }

@@ -2,8 +2,7 @@
 use Rattle.std.specs.Prelude.{◌≡◌, ℕ, zero, suc, ◌+◌, ◌<◌, Bool, true, false, cond, List, [], ◌∷◌, length, Some, None, Ok, Option, nat_le, nat_lt, refl}
 use Rattle.std.proofs.Common.{sym, arith, le_of_suc-le-suc, not-suc-le-zero, ◌≤◌, drop}
 use Rattle.std.proofs.lemmas.List.{drop_more}
-use Rattle.std.proofs.lemmas.Bool.{le-leb}
-use Rattle.std.proofs.lemmas.Bool.{ltb-true, leb-false, lt-leb}
+use Rattle.std.proofs.lemmas.Bool.{le-leb, ltb-true, leb-false, lt-leb}
 use Rattle.frame.specs.declared.terms.Term.{Term}
 use Rattle.frame.specs.Frames.{no_term, minute_at}
 use Rattle.std.proofs.lemmas.Option.{none-some}

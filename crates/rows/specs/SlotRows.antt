@@ -1,9 +1,8 @@
 -- The rows of a table's slots. Assumes nothing.
-use Rattle.std.specs.Prelude.{◌≡◌, ℕ, ◌+◌, ◌<◌, ◌≤◌, List, map, length, take, Some, None, Ok, Option, nat_lt, slice_index_or, slice_set}
+use Rattle.std.specs.Prelude.{◌≡◌, ℕ, ◌+◌, ◌<◌, ◌≤◌, List, map, length, take, Some, None, Ok, Option, nat_lt, slice_index_or, slice_set, [], ◌∷◌, ◌++◌}
 use Rattle.std.proofs.Common.{sym, ap, subst, ◌∙◌, inl, inr, arith, lit≤, not-suc-le-zero}
 use Rattle.std.proofs.Math.Seq.{take-set-lt}
 use Rattle.std.proofs.lemmas.List.{length-map, length-take-le, get_or-map, get_or-take, get_or-set_same, get_or-set_other, map-set, get_or_default, map_push, take_more_set}
-use Rattle.std.specs.Prelude.{[], ◌∷◌, ◌++◌}
 use Rattle.std.specs.List.{slice_get}
 use Rattle.std.proofs.lemmas.Option.{slice_get-get_or, slice_get_past}
 use Rattle.std.proofs.lemmas.Bool.{cases_eq}
@@ -42,7 +41,7 @@ module _ (n : ℕ) (slots : List (Option FrameBuf)) (fits : n ≤ length slots) 
 pub slots_fit : (t : Table) → t.count ≤ length t.slots
 slots_fit t = omega (arith, t.room, t.few)
 
--- what a strike leaves
+-- what a strike leaves, and a take
 pub rows_struck : (n : ℕ) (slots : List (Option FrameBuf)) (i : ℕ) → i < n → map slot_row (take n (slice_set slots i None)) ≡ slice_set (map slot_row (take n slots)) i empty_row
 rows_struck n slots i h = ap (map slot_row) (take-set-lt n slots i None h) ∙ map-set slot_row (take n slots) i None
 

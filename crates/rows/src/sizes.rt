@@ -18,7 +18,7 @@ pub type Width = Size<64>;
 // How many rows a ledger takes.
 pub type Limit = Size<96>;
 
-// The size of this number, or 16 for one that is not 1 to MOST.
+// The size of this number, or refusal 16 for one that is not 1 to MOST.
 impl<const MOST: usize> TryFrom<usize> for Size<MOST> {
     ghost use Rattle.std.specs.Prelude.{◌≡◌};
     ghost use Rattle.rows.specs.Sizes.{checked, number_in};
@@ -40,7 +40,7 @@ impl<const MOST: usize> Size<MOST> {
     ghost use Rattle.std.specs.Prelude.{◌≡◌};
     ghost use Rattle.rows.specs.Sizes.{number_of};
 
-    // Named as what it is; `usize::from` would say no more.
+    // Named: `usize::from` would not say which number.
     pub fn number(&self) -> usize
         ensures { result ≡ number_of MOST self.now }
     {

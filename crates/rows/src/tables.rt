@@ -18,7 +18,7 @@ pub const MOST_ROWS: usize = 96;
 type Slot = Option<FrameBuf>;
 
 // A table: a ledger in memory of its own. Its rows are the first `count` slots.
-// An array and a count, since a vector of fixed capacity is not `Copy`.
+// An array and a count: with a vector of fixed capacity the type would lose `Copy`, which it promises.
 #[derive(Clone, Copy)]
 pub struct Table {
     width: Width,

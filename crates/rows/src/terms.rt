@@ -31,6 +31,7 @@ impl<'a, R: Rows> Iterator for RowTerms<'a, R> {
 }
 
 // The terms of a row, in order; none where there is no such row.
+// A row goes by its number, as in each reading call: rows that leave out terms have none to lend.
 pub fn terms<R: Rows>(rows: &R, row: usize) -> Option<RowTerms<'_, R>>
     ensures { option_map (terms_left R.Rows.system) result ≡ option_map (λ r. r.terms) (slice_get (R.Rows.system rows.now).rows row) }
 {

@@ -6,7 +6,7 @@ ghost use Rattle.worked.specs.Sevenths.{seven_laws};
 use field::fields::Field;
 
 // The integers modulo 7, in code of their own: to share it with `Prime` takes a trait of primes with its law, for a test.
-// That a remainder fits 16 bits again is proved at `as u16`.
+// That a product fits 16 bits is proved at `as u16`; `try_from` would want an answer for what cannot happen.
 pub struct Seven;
 
 impl Field for Seven {
