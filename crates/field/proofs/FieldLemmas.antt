@@ -7,10 +7,6 @@ use Rattle.field.specs.Laws.{Lawful, Consequences}
 use Rattle.field.specs.Reciprocals.{some_times, ways, found_inverse}
 use Rattle.field.specs.Reciprocals as found
 
--- a number is 0 or it is not
-pub zero_or_not : (n : ℕ) → (n ≡ 0) ⊎ (n ≡ 0 → ⊥)
-zero_or_not n = cases_eq n 0
-
 -- the laws as equations that a rewriting can use
 module _ (F : Lawful) where
   pub plus_comm : (a b : ℕ) → F.ops.plus a b ≡ F.ops.plus b a
@@ -169,7 +165,7 @@ module _ (F : Lawful) where
 
   pub zero-product : (a b : ℕ) → F.ops.times a b ≡ 0 → (a % F.ops.q ≡ 0) ⊎ (b % F.ops.q ≡ 0)
   zero-product a b e =
-      elim (zero_or_not (a % F.ops.q)) [
+      elim (cases_eq (a % F.ops.q) 0) [
         | inl zero_a ↦ inl zero_a
         | inr some ↦ inr (times_cancel a b 0 some (e ∙ sym (times-zero a)) ∙ zero-mod-q)
       ]
@@ -196,7 +192,7 @@ module _ (F : Lawful) where
   -- the inverse reads by the remainder too
   pub reciprocal_of : (a : ℕ) → reciprocal F.ops (a % F.ops.q) ≡ reciprocal F.ops a
   reciprocal_of a =
-      elim (zero_or_not (a % F.ops.q)) [
+      elim (cases_eq (a % F.ops.q) 0) [
         | inl zero_a ↦ none_of_zero (a % F.ops.q) (mod-mod a F.ops.q ∙ zero_a) ∙ sym (none_of_zero a zero_a)
         | inr some ↦ reciprocal_is (a % F.ops.q) (inverse F.ops a) (inverse_code a) (times_left a (inverse F.ops a) ∙ F.times-inverse a some) ∙ sym (some_of_others a some)
       ]

@@ -1,22 +1,19 @@
 -- The check of terms decides whether they make a frame. Assumes nothing.
-use Rattle.std.proofs.Common.{◌≡◌, ℕ, zero, suc, ◌+◌, ◌<◌, ◌≤◌, Bool, true, false, cond, eqb, ltb, leb, List, [], ◌∷◌, length, Some, None, Ok, Err, Option, sym, refl, ◌∙◌, le_of_suc-le-suc, not-suc-le-zero, arith}
+use Rattle.std.proofs.Common.{◌≡◌, ℕ, zero, suc, ◌<◌, ◌≤◌, Bool, true, false, cond, eqb, ltb, leb, List, [], ◌∷◌, length, Some, None, Ok, Err, Option, sym, refl, ◌∙◌, le_of_suc-le-suc, not-suc-le-zero, arith}
 use Rattle.std.proofs.lemmas.Bool.{ltb-true, leb-true, eqb-false, lt-ltb, le-leb, ne_eqb, lt-leb}
 use Rattle.std.proofs.lemmas.Option.{none-some}
 use Rattle.frame.proofs.Apart.{err_ok}
 use Rattle.frame.specs.declared.terms.Term.{Term}
 use Rattle.frame.specs.declared.refusals.Refusal.{Refusal}
 use Rattle.frame.specs.declared.refusals.Refusal.TheVariants.{TermCount}
-use Rattle.frame.specs.Frames.{minute_at, weight_at, first_minute, first_weight, ordered, check, FrameTerms, Decided}
+use Rattle.frame.proofs.Positions.{none_passes, none_found}
+use Rattle.frame.specs.Frames.{no_term, minute_at, weight_at, first_minute, first_weight, ordered, check, FrameTerms, Decided}
 
 -- one term of the walk over the minutes
 passes : (a b : Bool) (x : Option ℕ) (at : ℕ) → cond a (cond b x (Some at)) (Some at) ≡ None → (a ≡ true) × (b ≡ true) × (x ≡ None)
 passes true true x at e = (refl, refl, e)
 passes true false x at e = absurd (none-some at (sym e))
 passes false b x at e = absurd (none-some at (sym e))
-
-stops : (b : Bool) (x : Option ℕ) (at : ℕ) → cond b (Some at) x ≡ None → (b ≡ false) × (x ≡ None)
-stops true x at e = absurd (none-some at (sym e))
-stops false x at e = (refl, e)
 
 minutes_below : (at low : ℕ) (ts : List Term) → first_minute at low ts ≡ None → (k : ℕ) → k < length ts → (low ≤ minute_at ts k) × (minute_at ts k < 64)
 minutes_below at low [] e k h = absurd (not-suc-le-zero h)
@@ -38,9 +35,7 @@ minutes_rise at low (t ∷ ts) e (suc j) (suc k) lt h =
     minutes_rise (suc at) (suc t.minute) ts (passes (ltb t.minute 64) (leb low t.minute) _ at e).2 j k (le_of_suc-le-suc lt) (le_of_suc-le-suc h)
 
 weights_some : (at : ℕ) (ts : List Term) → first_weight at ts ≡ None → (k : ℕ) → k < length ts → weight_at ts k ≡ 0 → ⊥
-weights_some at [] e k h z = not-suc-le-zero h
-weights_some at (t ∷ ts) e zero h z = eqb-false t.weight 0 (stops (eqb t.weight 0) _ at e).0 z
-weights_some at (t ∷ ts) e (suc k) h z = weights_some (at + 1) ts (stops (eqb t.weight 0) _ at e).1 k (le_of_suc-le-suc h) z
+weights_some at ts e k h z = eqb-false (weight_at ts k) 0 (none_passes (λ t. eqb t.weight 0) no_term at ts e k h) z
 
 -- and back
 minutes_pass : (at low : ℕ) (ts : List Term) → ((k : ℕ) → k < length ts → minute_at ts k < 64) → ((j k : ℕ) → j < k → k < length ts → minute_at ts j < minute_at ts k) → (0 < length ts → low ≤ minute_at ts 0) → first_minute at low ts ≡ None
@@ -50,9 +45,7 @@ minutes_pass at low (t ∷ ts) below rising first =
     (minutes_pass (suc at) (suc t.minute) ts (λ k h. below (suc k) (omega arith)) (λ j k lt h. rising (suc j) (suc k) (omega arith) (omega arith)) (λ h. rising 0 1 (omega arith) (omega arith)))
 
 weights_pass : (at : ℕ) (ts : List Term) → ((k : ℕ) → k < length ts → weight_at ts k ≡ 0 → ⊥) → first_weight at ts ≡ None
-weights_pass at [] some = refl
-weights_pass at (t ∷ ts) some =
-    rw (ne_eqb t.weight 0 (some 0 (omega arith))) (weights_pass (at + 1) ts (λ k h. some (suc k) (omega arith)))
+weights_pass at ts some = none_found (λ t. eqb t.weight 0) no_term at ts (λ k h. ne_eqb (weight_at ts k) 0 (some k h))
 
 -- what an answer of "no refusal" says of each part of the check
 parts : (a b : Bool) (m w : Option ℕ) → cond a (cond b (ordered m w) (Err TermCount)) (Err TermCount) ≡ Ok tt → (a ≡ true) × (b ≡ true) × (m ≡ None) × (w ≡ None)

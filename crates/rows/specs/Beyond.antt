@@ -1,12 +1,12 @@
 -- The first minute beyond a width. Assumes nothing.
-use Rattle.std.specs.Prelude.{◌≡◌, ℕ, zero, suc, ◌+◌, ◌<◌, Bool, true, false, cond, List, [], ◌∷◌, length, Some, None, Ok, Option, nat_le, nat_lt, refl}
-use Rattle.std.proofs.Common.{sym, arith, le_of_suc-le-suc, not-suc-le-zero, ◌≤◌, drop}
+use Rattle.std.specs.Prelude.{◌≡◌, ℕ, ◌+◌, ◌<◌, Bool, true, false, List, length, Some, None, Ok, Option, nat_le, nat_lt, refl}
+use Rattle.std.proofs.Common.{sym, ◌≤◌, drop}
 use Rattle.std.proofs.lemmas.List.{drop_more}
 use Rattle.std.proofs.lemmas.Bool.{le-leb, ltb-true, leb-false, lt-leb}
 use Rattle.frame.specs.declared.terms.Term.{Term}
 use Rattle.frame.specs.Frames.{no_term, minute_at}
-use Rattle.std.proofs.lemmas.Option.{none-some}
 use Rattle.frame.proofs.Apart.{err_ok}
+use Rattle.frame.proofs.Positions.{none_passes, none_found}
 use Rattle.rows.specs.Systems.{Row, System}
 use Rattle.rows.specs.Ledgers.{first_beyond, admitted, take_answer}
 
@@ -18,19 +18,12 @@ module _ (m at : ℕ) (ts : List Term) (i : ℕ) (h : i < length ts) where
   pub later_beyond : minute_at ts i < m → first_beyond m at (drop i ts) ≡ first_beyond m (at + 1) (drop (i + 1) ts)
   later_beyond l = rw (drop_more ts i no_term h, lt-leb m (minute_at ts i) l)
 
-passes : (b : Bool) (x : Option ℕ) (at : ℕ) → cond b (Some at) x ≡ None → (b ≡ false) × (x ≡ None)
-passes true x at e = absurd (none-some at (sym e))
-passes false x at e = (refl, e)
-
 -- no term is beyond just where all minutes are below
 pub none_beyond : (m at : ℕ) (ts : List Term) → first_beyond m at ts ≡ None → (k : ℕ) → k < length ts → minute_at ts k < m
-none_beyond m at [] e k h = absurd (not-suc-le-zero h)
-none_beyond m at (t ∷ ts) e zero h = leb-false m t.minute (passes (nat_le m t.minute) _ at e).0
-none_beyond m at (t ∷ ts) e (suc k) h = none_beyond m (at + 1) ts (passes (nat_le m t.minute) _ at e).1 k (le_of_suc-le-suc h)
+none_beyond m at ts e k h = leb-false m (minute_at ts k) (none_passes (λ t. nat_le m t.minute) no_term at ts e k h)
 
 pub all_below_lem : (m at : ℕ) (ts : List Term) → ((k : ℕ) → k < length ts → minute_at ts k < m) → first_beyond m at ts ≡ None
-all_below_lem m at [] below = refl
-all_below_lem m at (t ∷ ts) below = rw (lt-leb m t.minute (below 0 (omega arith))) (all_below_lem m (at + 1) ts (λ k h. below (suc k) (omega arith)))
+all_below_lem m at ts below = none_found (λ t. nat_le m t.minute) no_term at ts (λ k h. lt-leb m (minute_at ts k) (below k h))
 
 admitted_ok : (first : Option ℕ) (room : Bool) (n row : ℕ) → Ok row ≡ admitted first room n → (first ≡ None) × (room ≡ true) × (row ≡ n)
 admitted_ok (Some term) room n row e = absurd (err_ok _ row (sym e))

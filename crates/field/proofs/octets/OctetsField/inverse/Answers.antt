@@ -1,9 +1,9 @@
 -- A logarithm's power times the one that completes 255 is 1. Assumes nothing.
 use Rattle.std.proofs.Common.{◌-◌, ◌%◌, Bool, not, Some, sym, ap, ◌∙◌, inl, inr, arith}
-use Rattle.std.proofs.lemmas.Bool.{eq-eqb, ne_eqb}
+use Rattle.std.proofs.lemmas.Bool.{cases_eq, eq-eqb, ne_eqb}
 use Rattle.std.specs.Bool.{then_some}
 use Rattle.field.specs.Octets.{octet_times, power}
-use Rattle.field.proofs.FieldLemmas.{zero_or_not, none_of_zero, reciprocal_is, times_left}
+use Rattle.field.proofs.FieldLemmas.{none_of_zero, reciprocal_is, times_left}
 use Rattle.field.specs.OctetPowers.{power_code, times_completion}
 use Rattle.field.specs.OctetLaws.{octet_field}
 use Rattle.field.proofs.octets.OctetsField.inverse.Goals as goal
@@ -14,7 +14,7 @@ returns c =
     let log = c.log_at.ensures in
     let b = power (255 - c.log_at.result) in
     let given = λ (zero : Bool). then_some (not zero) c.power_at.result in
-    elim (zero_or_not (a % 256)) [
+    elim (cases_eq (a % 256) 0) [
       | inl zero ↦ c.then_some.ensures ∙ ap given (eq-eqb _ _ zero) ∙ sym (none_of_zero octet_field a zero)
       | inr some ↦
           let product = sym (times_left octet_field a b) ∙ ap (λ x. octet_times x b) (sym (log.powers (omega arith))) ∙ times_completion c.log_at.result log.below in
