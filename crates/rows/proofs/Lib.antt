@@ -1,3 +1,4 @@
 pub mod Readings
 pub mod RowValues
 mod Piles
+mod Fits

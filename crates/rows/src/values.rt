@@ -1,5 +1,5 @@
 //! The matrix of rows, and the value of a row, in any field.
-ghost use Rattle.std.specs.Prelude.{◌≡◌};
+ghost use Rattle.std.specs.Prelude.{◌≡◌, ℕ};
 ghost use Rattle.rows.specs.Systems.{row_at};
 ghost use Rattle.rows.specs.Values.{choice, entry_of, row_value_of, ValueTells};
 
@@ -20,22 +20,32 @@ pub fn entry<F: Field, R: Rows>(rows: &R, row: usize, minute: usize) -> Option<u
     Some(code_of::<F>(weight))
 }
 
-// The code at a minute; 0 where x has none.
-fn code_at(x: &[u16], minute: u16) -> u16
-    ensures { result ≡ choice x.now minute }
-{
-    x.get(usize::from(minute)).copied().unwrap_or(0)
+// A choice of minutes: a code for each.
+pub trait Choice {
+    ghost codes: { Self → ℕ → ℕ };
+
+    fn code(&self, minute: u16) -> u16
+        ensures { result ≡ codes self.now minute };
 }
 
-// A row's sum less its weights times the codes of x at their minutes, a code that x lacks counting as 0; none where there
-// is no such row. Each term is read once.
-pub fn row_value<F: Field, R: Rows>(rows: &R, row: usize, x: &[u16]) -> Option<u16>
-    ensures value { result ≡ row_value_of F.Field.ops (R.Rows.system rows.now) row (choice x.now) }
-    ensures tells { ValueTells F.Field.ops (row_at (R.Rows.system rows.now) row) (choice x.now) }
+// The numbers of a slice; past its end a code is 0.
+impl Choice for &[u16] {
+    ghost codes = { λ x. choice x.now };
+
+    fn code(&self, minute: u16) -> u16 {
+        self.get(usize::from(minute)).copied().unwrap_or(0)
+    }
+}
+
+// A row's sum less its weights times the codes that are chosen at their minutes; none where there is no such row. Each
+// term is read once.
+pub fn row_value<F: Field, R: Rows, X: Choice>(rows: &R, row: usize, x: &X) -> Option<u16>
+    ensures value { result ≡ row_value_of F.Field.ops (R.Rows.system rows.now) row (X.Choice.codes x.now) }
+    ensures tells { ValueTells F.Field.ops (row_at (R.Rows.system rows.now) row) (X.Choice.codes x.now) }
 {
     let sum = rows.sum(row)?;
     let total = terms(rows, row)?.fold(0, |total, term| {
-        F::plus(total, F::times(term.weight, code_at(x, term.minute)))
+        F::plus(total, F::times(term.weight, x.code(term.minute)))
     });
     Some(F::plus(sum, F::negative(total)))
 }

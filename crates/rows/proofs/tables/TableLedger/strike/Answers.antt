@@ -1,15 +1,21 @@
-use Rattle.std.proofs.Common.{Ok, Err, refl, ap, arith}
+use Rattle.std.proofs.Common.{Ok, Err, refl, sym, ap, subst, arith}
 use Rattle.frame.specs.declared.refusals.Refusal.TheVariants.{NoSuchRow}
 use Rattle.std.proofs.lemmas.Bool.{cond_below}
+use Rattle.rows.specs.Values.{OthersFit}
+use Rattle.rows.specs.Tables.{system_of}
 use Rattle.rows.specs.SlotRows.{row_count, rows_struck, slots_fit}
+use Rattle.rows.proofs.Fits.{struck_others}
 use Rattle.rows.proofs.tables.TableLedger.strike.Goals as goal
 
 pub returns : goal.returns
 returns c =
     let t = c.args.self.now in
+    let row = c.args.row in
     let counted = row_count t.count t.slots (slots_fit t) in
+    let gone = rows_struck t.count t.slots row c.if-row-self.false in
     record {
       answer = cond_below _ _ (Ok tt) (Err NoSuchRow) (omega (arith, c.if-row-self.false));
-      after = ap (λ rows. record { width = t.width.number; rows = rows }) (rows_struck t.count t.slots c.args.row c.if-row-self.false);
+      after = ap (λ rows. record { width = t.width.number; rows = rows }) gone;
+      others = subst (λ rows. OthersFit (system_of t) (record { width = t.width.number; rows = rows }) row) (sym gone) (struck_others (system_of t) row);
       kept = refl;
     }
