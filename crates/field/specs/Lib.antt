@@ -1,6 +1,7 @@
 pub mod Operations
 pub mod Laws
 pub mod Sums
+pub mod Slices
 pub mod Modulo
 pub mod Octets
 pub mod Tables

@@ -1,12 +1,7 @@
--- A slice filled at its first places. Assumes nothing.
-use Rattle.std.specs.Prelude.{◌≡◌, ℕ, ◌<◌, ◌≤◌, min, List, length, slice_index}
+-- Slices of products and of inverses. Assumes nothing.
+use Rattle.std.specs.Prelude.{ℕ, min, List, length, slice_index}
 use Rattle.field.specs.Operations.{Operations, inverse}
-
--- `after` is `before` with f's values at the first n places
-pub record Filled (n : ℕ) (f : ℕ → ℕ) (before after : List ℕ) : Type 0 where
-  pub long : length after ≡ length before
-  pub done : (k : ℕ) → k < n → slice_index after k ≡ f k
-  pub kept : (k : ℕ) → n ≤ k → slice_index after k ≡ slice_index before k
+use Rattle.field.specs.Slices.{Filled}
 
 abbrev pub product : Operations → List ℕ → List ℕ → ℕ → ℕ
 product K a b k = K.times (slice_index a k) (slice_index b k)

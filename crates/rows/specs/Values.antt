@@ -1,5 +1,5 @@
 -- The matrix of rows, and the values of a row and of a column, in any field. Assumes nothing.
-use Rattle.std.specs.Prelude.{◌≡◌, ℕ, ◌%◌, ◌<◌, cond, List, [], ◌∷◌, length, Some, None, Option, ◌==◌, ◌≢◌, nat_lt, slice_index}
+use Rattle.std.specs.Prelude.{◌≡◌, ℕ, ◌%◌, ◌<◌, cond, List, [], ◌∷◌, length, Some, None, Option, ◌==◌, ◌≢◌, ◌↔◌, nat_lt, slice_index}
 use Rattle.std.specs.List.{slice_get}
 use Rattle.std.specs.Option.{option_map}
 use Rattle.field.specs.Operations.{Operations}
@@ -48,14 +48,9 @@ Satisfies K r x = weighted K r.terms x ≡ r.sum % K.q
 abbrev pub SatisfiesAll : Operations → System → (ℕ → ℕ) → Type 0
 SatisfiesAll K S x = (i : ℕ) → i < length S.rows → Satisfies K (row_at S i) x
 
--- the one choice satisfies the one row just where the other satisfies the other
-pub record SameFit (K : Operations) (r : Row) (x : ℕ → ℕ) (t : Row) (y : ℕ → ℕ) : Type 0 where
-  pub fore : Satisfies K r x → Satisfies K t y
-  pub back : Satisfies K t y → Satisfies K r x
-
--- in two systems the same choices satisfy each row but row i
+-- each row but row i is satisfied by the same choices in the one system as in the other
 abbrev pub OthersFit : System → System → ℕ → Type 0
-OthersFit S T i = (K : Operations) (x : ℕ → ℕ) (k : ℕ) → k ≢ i → SameFit K (row_at S k) x (row_at T k) x
+OthersFit S T i = (K : Operations) (x : ℕ → ℕ) (k : ℕ) → k ≢ i → Satisfies K (row_at S k) x ↔ Satisfies K (row_at T k) x
 
 -- a row's value is a code, and 0 just where the row is satisfied
 pub record ValueTells (K : Operations) (r : Row) (x : ℕ → ℕ) : Type 0 where

@@ -1,5 +1,6 @@
 -- The places below the counter are filled. Assumes nothing.
-use Rattle.fieldspeed.specs.Slices.{Filled, inverted}
+use Rattle.field.specs.Slices.{Filled}
+use Rattle.fieldspeed.specs.Slices.{inverted}
 use Rattle.fieldspeed.proofs.inverse_all.Given as goal
 
 abbrev pub invariant-loop-i : goal.invariant-loop-i

@@ -1,5 +1,6 @@
 -- The places below the counter are filled. Assumes nothing.
-use Rattle.fieldspeed.specs.Slices.{Filled, product}
+use Rattle.field.specs.Slices.{Filled}
+use Rattle.fieldspeed.specs.Slices.{product}
 use Rattle.fieldspeed.proofs.times_all.Given as goal
 
 abbrev pub invariant-loop-i : goal.invariant-loop-i

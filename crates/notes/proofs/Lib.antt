@@ -1,0 +1,4 @@
+mod NoNotes
+mod Readings
+mod Fits
+mod Ledgers

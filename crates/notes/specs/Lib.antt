@@ -1,0 +1,3 @@
+pub mod Notes
+pub mod Layers
+pub mod Under

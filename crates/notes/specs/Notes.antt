@@ -1,0 +1,64 @@
+-- Which minutes are noted, with which codes, and what rows mean under them. Assumes nothing.
+use Rattle.std.specs.Prelude.{◌≡◌, ℕ, ◌<◌, cond, List, length, map, Some, None, Ok, Err, Option, Result, ◌↔◌, nat_lt, replicate, slice_index_or, slice_set}
+use Rattle.std.specs.List.{filter}
+use Rattle.std.specs.Option.{unwrap_or, is_some, is_none}
+use Rattle.std.proofs.Props.{props}
+use Rattle.field.specs.Operations.{Operations}
+use Rattle.frame.specs.declared.terms.Term.{Term}
+use Rattle.frame.specs.declared.refusals.Refusal.{Refusal}
+use Rattle.frame.specs.declared.refusals.Refusal.TheVariants.{MinuteBeyondWidth, NoCode, MinuteNoted}
+use Rattle.rows.specs.Systems.{Row, System}
+use Rattle.rows.specs.Values.{SatisfiesAll, row_value}
+
+-- the code that is noted for a minute, if there is one
+abbrev pub code_noted : List (Option ℕ) → ℕ → Option ℕ
+code_noted codes c = slice_index_or codes c None
+
+-- nothing is noted
+abbrev pub no_codes : List (Option ℕ)
+no_codes = replicate 64 None
+
+-- how many minutes are noted
+abbrev pub count_noted : List (Option ℕ) → ℕ
+count_noted codes = length (filter is_some codes)
+
+-- the noted codes, put into a choice of minutes
+abbrev pub put_in : List (Option ℕ) → (ℕ → ℕ) → ℕ → ℕ
+put_in codes x c = unwrap_or (code_noted codes c) (x c)
+
+-- the noted codes alone
+abbrev pub known : List (Option ℕ) → ℕ → ℕ
+known codes = put_in codes (λ c. 0)
+
+-- the terms at minutes that are not noted
+abbrev pub open_terms : List (Option ℕ) → List Term → List Term
+open_terms codes ts = filter (λ t. is_none (code_noted codes t.minute)) ts
+
+-- a row under the notes: the weights times the noted codes leave the sum, as a code
+abbrev pub row_under : Operations → List (Option ℕ) → Row → Row
+row_under K codes r = record { sum = row_value K r (known codes); terms = open_terms codes r.terms }
+
+abbrev pub system_under : Operations → List (Option ℕ) → System → System
+system_under K codes S = record { width = S.width; rows = map (row_under K codes) S.rows }
+
+-- the answer to a note, in the order of its tests
+abbrev pub note_answer : Operations → ℕ → List (Option ℕ) → ℕ → ℕ → Result (Unit {0}) Refusal
+note_answer K m codes c code = cond (nat_lt c m) (cond (nat_lt code K.q) (cond (is_none (code_noted codes c)) (Ok tt) (Err MinuteNoted)) (Err (NoCode 0))) (Err (MinuteBeyondWidth 0))
+
+-- what a note leaves, by its answer
+abbrev pub after_note : Result (Unit {0}) Refusal → List (Option ℕ) → ℕ → ℕ → List (Option ℕ)
+after_note (Ok u) codes c code = slice_set codes c (Some code)
+after_note (Err e) codes c code = codes
+
+-- notes for a width: what is noted are codes, at minutes below the width
+pub record NotesFit (K : Operations) (m : ℕ) (codes : List (Option ℕ)) : Type 0 where
+  pub below : (c code : ℕ) → code_noted codes c ≡ Some code → c < m
+  pub code : (c code : ℕ) → code_noted codes c ≡ Some code → code < K.q
+
+-- there is one proof of it at most
+pub NotesFit-prop : (K : Operations) (m : ℕ) (codes : List (Option ℕ)) → IsProp (NotesFit K m codes)
+NotesFit-prop K m codes = Prim.hlevel props
+
+-- a choice of minutes satisfies the rows under the notes just where, with the noted codes put in, it satisfies the rows
+abbrev pub FitUnder : Operations → List (Option ℕ) → System → (ℕ → ℕ) → Type 0
+FitUnder K codes S x = SatisfiesAll K (system_under K codes S) x ↔ SatisfiesAll K S (put_in codes x)

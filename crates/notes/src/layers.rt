@@ -1,0 +1,188 @@
+//! Rows under noted minutes.
+ghost use Rattle.notes.specs.Notes.{NotesFit, NotesFit-prop};
+
+use crate::notes::Notes;
+use field::fields::{Field, is_code};
+use frame::frames::Frame;
+use frame::refusals::Refusal;
+use frame::terms::Term;
+use rows::ledgers::Ledger;
+use rows::reading::Rows;
+use rows::terms::terms;
+use rows::values::row_value;
+use std::marker::PhantomData;
+
+// Rows, some minutes of which are noted.
+#[derive(Drop)]
+pub struct Noted<F: Field, R: Rows> {
+    notes: Notes,
+    below: R,
+    field: PhantomData<F>,
+    ghost fits: { NotesFit F.ops (R.system below).width notes.codes } by { NotesFit-prop F.ops (R.system below).width notes.codes },
+}
+
+impl<F: Field, R: Rows> Noted<F, R> {
+    ghost use Rattle.std.specs.Prelude.{◌≡◌, ◌≤◌, ◌↔◌, length};
+    ghost use Rattle.field.specs.Slices.{Filled};
+    ghost use Rattle.rows.specs.Values.{choice, SatisfiesAll};
+    ghost use Rattle.notes.specs.Notes.{NotesFit, no_codes, note_answer, after_note, code_noted, count_noted, put_in};
+    ghost use Rattle.notes.specs.Layers.{codes_in, below, system_noted};
+
+    // The rows, with no minute noted.
+    pub fn new(rows: R) -> Noted<F, R>
+        ensures codes { codes_in result ≡ no_codes }
+        ensures below { below result ≡ rows }
+    {
+        Noted {
+            notes: Notes::new(),
+            below: rows,
+            field: PhantomData,
+        }
+    }
+
+    // The rows below, for reading.
+    pub fn below(&self) -> &R
+        ensures { result.now ≡ below self.now }
+    {
+        &self.below
+    }
+
+    // The rows below; the notes are gone.
+    pub fn into_below(self) -> R
+        ensures { result ≡ below self }
+    {
+        self.below
+    }
+
+    // Notes a code for a minute; refuses a minute not below the width (2), then a code not below the field's size (3), then
+    // a minute that is noted (4).
+    pub fn note(&mut self, minute: usize, code: u16) -> Result<(), Refusal>
+        ensures answer { result ≡ note_answer F.ops (R.system (below self.old)).width (codes_in self.old) minute code }
+        ensures codes { codes_in self.new ≡ after_note result (codes_in self.old) minute code }
+        ensures below { below self.new ≡ below self.old }
+    {
+        if minute >= self.below.width() {
+            return Err(Refusal::MinuteBeyondWidth(0));
+        }
+        if !is_code::<F>(code) {
+            return Err(Refusal::NoCode(0));
+        }
+        if self.notes.code(minute).is_some() {
+            return Err(Refusal::MinuteNoted);
+        }
+        self.notes.set(minute, code);
+        Ok(())
+    }
+
+    // Removes all notes.
+    pub fn clear_notes(&mut self)
+        ensures codes { codes_in self.new ≡ no_codes }
+        ensures below { below self.new ≡ below self.old }
+    {
+        self.notes = Notes::new();
+    }
+
+    // The noted code of a minute; none where none is noted. What is noted are codes, at minutes below the width.
+    pub fn noted(&self, minute: usize) -> Option<u16>
+        ensures code { result ≡ code_noted (codes_in self.now) minute }
+        ensures fits { NotesFit F.ops (R.system (below self.now)).width (codes_in self.now) }
+    {
+        self.notes.code(minute)
+    }
+
+    // How many minutes are noted.
+    pub fn noted_count(&self) -> usize
+        ensures { result ≡ count_noted (codes_in self.now) }
+    {
+        self.notes.count()
+    }
+
+    // Puts the noted codes into a choice of minutes, as far as x reaches. Where x has all minutes, it satisfies the rows
+    // below afterwards just where it satisfied the rows under the notes before.
+    pub fn put_in(&self, x: &mut [u16])
+        ensures codes { Filled (length x.old) (put_in (codes_in self.now) (choice x.old)) x.old x.new }
+        ensures fits { (R.system (below self.now)).width ≤ length x.old → SatisfiesAll F.ops (system_noted self.now) (choice x.old) ↔ SatisfiesAll F.ops (R.system (below self.now)) (choice x.new) }
+    {
+        for minute in 0..x.len() {
+            if let Some(code) = self.notes.code(minute) {
+                x[minute] = code;
+            }
+        }
+    }
+}
+
+// The calls of a ledger below. The notes stay.
+impl<F: Field, L: Ledger> Noted<F, L> {
+    ghost use Rattle.std.specs.Prelude.{◌≡◌, ℕ};
+    ghost use Rattle.rows.specs.Ledgers.{row_of, take_answer, after_take, strike_answer, after_strike, cleared};
+    ghost use Rattle.rows.specs.Values.{OthersFit};
+    ghost use Rattle.notes.specs.Notes.{row_under};
+    ghost use Rattle.notes.specs.Layers.{codes_in, below, system_noted};
+
+    // Takes a frame as the ledger below does; a row under the notes is added to those shown.
+    pub fn take(&mut self, frame: &Frame<'_>) -> Result<usize, Refusal>
+        ensures answer { result ≡ take_answer (L.system (below self.old)) (L.most (below self.old)) (row_of frame.now) }
+        ensures after { L.system (below self.new) ≡ after_take result (L.system (below self.old)) (row_of frame.now) }
+        ensures shown { system_noted self.new ≡ after_take result (system_noted self.old) (row_under F.ops (codes_in self.old) (row_of frame.now)) }
+        ensures kept { L.most (below self.new) ≡ L.most (below self.old) }
+        ensures codes { codes_in self.new ≡ codes_in self.old }
+    {
+        self.below.take(frame)
+    }
+
+    // Makes a row empty as the ledger below does; the row shown is empty too, and whichever choice of minutes satisfied
+    // another row shown satisfies it still.
+    pub fn strike(&mut self, row: usize) -> Result<(), Refusal>
+        ensures answer { result ≡ strike_answer (L.system (below self.old)) row }
+        ensures after { L.system (below self.new) ≡ after_strike result (L.system (below self.old)) row }
+        ensures shown { system_noted self.new ≡ after_strike result (system_noted self.old) row }
+        ensures others { OthersFit (system_noted self.old) (system_noted self.new) row }
+        ensures kept { L.most (below self.new) ≡ L.most (below self.old) }
+        ensures codes { codes_in self.new ≡ codes_in self.old }
+    {
+        self.below.strike(row)
+    }
+
+    // Removes all rows.
+    pub fn clear_rows(&mut self)
+        ensures after { L.system (below self.new) ≡ cleared (L.system (below self.old)) }
+        ensures shown { system_noted self.new ≡ cleared (system_noted self.old) }
+        ensures kept { L.most (below self.new) ≡ L.most (below self.old) }
+        ensures codes { codes_in self.new ≡ codes_in self.old }
+    {
+        self.below.clear();
+    }
+}
+
+impl<F: Field, R: Rows> Rows for Noted<F, R> {
+    ghost use Rattle.notes.specs.Layers.{system_noted};
+    ghost use Rattle.notes.specs.Under.{system_under_formed};
+
+    ghost system = { system_noted };
+
+    ghost formed = { λ noted. system_under_formed F.ops noted.notes.codes F.laws (R.system noted.below) (R.formed noted.below) };
+
+    fn width(&self) -> usize {
+        self.below.width()
+    }
+
+    fn row_count(&self) -> usize {
+        self.below.row_count()
+    }
+
+    fn term_count(&self, row: usize) -> Option<usize> {
+        let notes = &self.notes;
+        let open = terms(&self.below, row)?.filter(|term| notes.is_open(term.minute));
+        Some(open.count())
+    }
+
+    fn term(&self, row: usize, number: usize) -> Option<Term> {
+        let notes = &self.notes;
+        let mut open = terms(&self.below, row)?.filter(|term| notes.is_open(term.minute));
+        open.nth(number)
+    }
+
+    fn sum(&self, row: usize) -> Option<u16> {
+        row_value::<F, R, Notes>(&self.below, row, &self.notes)
+    }
+}

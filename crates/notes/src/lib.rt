@@ -1,0 +1,5 @@
+//! Noted minutes over rows.
+#![tactic(auto)]
+
+pub mod layers;
+mod notes;
