@@ -3,6 +3,8 @@
 #![tactic(auto)]
 
 pub mod facts;
+#[cfg(test)]
+mod row_tests;
 pub mod sevens;
 
 #[cfg(test)]

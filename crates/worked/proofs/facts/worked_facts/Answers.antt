@@ -2,8 +2,21 @@
 use Rattle.std.proofs.Common.{refl}
 use Rattle.field.specs.Operations.{first_from, reciprocal}
 use Rattle.field.specs.Octets.{product, remainder, octet_times, power}
+use Rattle.field.specs.Sums.{Σ}
+use Rattle.rows.specs.Values.{weighted}
 use Rattle.worked.proofs.facts.worked_facts.Goals as goal
 
 pub returns : goal.returns
-unfolding first_from reciprocal product remainder octet_times power
-returns c = record { prime_product = refl; prime_inverse = refl; octet_product = refl; octet_inverse = refl; octet_power = refl }
+unfolding first_from reciprocal product remainder octet_times power Σ weighted
+returns c =
+    record {
+      prime_product = refl;
+      prime_inverse = refl;
+      octet_product = refl;
+      octet_inverse = refl;
+      octet_power = refl;
+      third_row_left = refl;
+      first_column = refl;
+      last_column = refl;
+      third_row_noted = refl;
+    }
