@@ -1,13 +1,26 @@
 -- What is read of rows under notes. Assumes nothing.
-use Rattle.std.proofs.Common.{◌≡◌, ℕ, List, length, Some, Option, ap, sym, ◌∙◌}
+use Rattle.std.proofs.Common.{◌≡◌, ℕ, Bool, Bor, List, length, Some, Option, ap, sym, ◌∙◌}
+use Rattle.std.specs.Fn.{CalledAt}
+use Rattle.std.specs.Iterator.{YieldsFirst}
+use Rattle.std.specs.Iterator.Adapters.{filter_source, filter_callee, filter_steps}
+use Rattle.std.specs.declared.iter.Filter.{Filter}
 use Rattle.std.specs.List.{slice_get}
-use Rattle.std.specs.Option.{option_map}
+use Rattle.std.specs.Option.{option_map, is_none}
+use Rattle.std.proofs.lemmas.Iterator.{YieldsList}
+use Rattle.std.proofs.lemmas.Iterator.Consumers.{YieldsList-from_first, YieldsList-from_filter}
+use denote.Param.Members.{Mut}
 use Rattle.std.proofs.lemmas.Option.{slice_get-map, slice_get-get_or}
 use Rattle.field.specs.Operations.{Operations}
 use Rattle.frame.specs.declared.terms.Term.{Term}
+use Rattle.rows.specs.declared.terms.RowTerms.{RowTerms}
+use Rattle.rows.specs.RowTerms.{terms_left}
 use Rattle.rows.specs.Systems.{System, empty_row, row_at, count_in, term_in, term_count_of, term_of}
 use Rattle.rows.proofs.RowValues.{found_terms}
-use Rattle.notes.specs.Notes.{open_terms, row_under, system_under}
+use Rattle.notes.specs.Notes.{noted_code, open_terms, row_under, system_under}
+
+-- a filter over terms hands out those at minutes that are not noted
+pub open_yielded : {X F : Type 0} (system : X → System) (codes : List (Option ℕ)) (ts : List Term) {s : Filter (RowTerms X) F} {g : Mut F (Bor Term × Unit {0}) Bool} {f : F} → terms_left system (filter_source s) ≡ ts → filter_callee s ≡ f → ((t : Term) (b : Bool) (q : F) → CalledAt g f t b q → (q ≡ f) × (b ≡ is_none (noted_code codes t.minute))) → YieldsList (filter_steps (YieldsFirst (terms_left system)) g) (λ t. t) s (open_terms codes ts)
+open_yielded system codes ts {g = g} source closure tells = YieldsList-from_filter g (λ t. is_none (noted_code codes t.minute)) (YieldsList-from_first (λ t. t) (terms_left system) ts source) closure tells
 
 -- a row whose terms below are ts
 module _ (K : Operations) (codes : List (Option ℕ)) (S : System) (i : ℕ) (ts : List Term) (found : Some ts ≡ option_map (λ r. r.terms) (slice_get S.rows i)) where

@@ -10,9 +10,12 @@ use Rattle.notes.specs.Notes.{system_under}
 abbrev pub codes_in : {X Y : Type 0} {F : field.Ghosts X} {R : rows.Ghosts Y} → Noted X Y F R → List (Option ℕ)
 codes_in noted = noted.notes.codes
 
--- the rows below
+-- the rows below, and what they mean
 abbrev pub below : {X Y : Type 0} {F : field.Ghosts X} {R : rows.Ghosts Y} → Noted X Y F R → Y
 below noted = noted.below
+
+abbrev pub system_below : {X Y : Type 0} {F : field.Ghosts X} {R : rows.Ghosts Y} → Noted X Y F R → System
+system_below {R = R} noted = R.system noted.below
 
 -- what the layer means
 abbrev pub system_noted : {X Y : Type 0} {F : field.Ghosts X} {R : rows.Ghosts Y} → Noted X Y F R → System

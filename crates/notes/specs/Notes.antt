@@ -11,54 +11,55 @@ use Rattle.rows.specs.Systems.{Row, System}
 use Rattle.rows.specs.Values.{SatisfiesAll, row_value}
 
 -- the code that is noted for a minute, if there is one
-abbrev pub code_noted : List (Option ℕ) → ℕ → Option ℕ
-code_noted codes c = slice_index_or codes c None
+abbrev pub noted_code : List (Option ℕ) → ℕ → Option ℕ
+noted_code codes c = slice_index_or codes c None
 
 -- nothing is noted
 abbrev pub no_codes : List (Option ℕ)
 no_codes = replicate 64 None
 
 -- how many minutes are noted
-abbrev pub count_noted : List (Option ℕ) → ℕ
-count_noted codes = length (filter is_some codes)
+abbrev pub noted_count : List (Option ℕ) → ℕ
+noted_count codes = length (filter is_some codes)
 
 -- the noted codes, put into a choice of minutes
 abbrev pub put_in : List (Option ℕ) → (ℕ → ℕ) → ℕ → ℕ
-put_in codes x c = unwrap_or (code_noted codes c) (x c)
+put_in codes x c = unwrap_or (noted_code codes c) (x c)
 
--- the noted codes alone
-abbrev pub known : List (Option ℕ) → ℕ → ℕ
-known codes = put_in codes (λ c. 0)
+-- the noted codes alone, 0 elsewhere
+abbrev pub noted_alone : List (Option ℕ) → ℕ → ℕ
+noted_alone codes = put_in codes (λ c. 0)
 
 -- the terms at minutes that are not noted
 abbrev pub open_terms : List (Option ℕ) → List Term → List Term
-open_terms codes ts = filter (λ t. is_none (code_noted codes t.minute)) ts
+open_terms codes ts = filter (λ t. is_none (noted_code codes t.minute)) ts
 
--- a row under the notes: the weights times the noted codes leave the sum, as a code
+-- a row under the notes: the sum less the weights times the noted codes, as a code, and the terms at the other minutes
 abbrev pub row_under : Operations → List (Option ℕ) → Row → Row
-row_under K codes r = record { sum = row_value K r (known codes); terms = open_terms codes r.terms }
+row_under K codes r = record { sum = row_value K r (noted_alone codes); terms = open_terms codes r.terms }
 
 abbrev pub system_under : Operations → List (Option ℕ) → System → System
 system_under K codes S = record { width = S.width; rows = map (row_under K codes) S.rows }
 
 -- the answer to a note, in the order of its tests
 abbrev pub note_answer : Operations → ℕ → List (Option ℕ) → ℕ → ℕ → Result (Unit {0}) Refusal
-note_answer K m codes c code = cond (nat_lt c m) (cond (nat_lt code K.q) (cond (is_none (code_noted codes c)) (Ok tt) (Err MinuteNoted)) (Err (NoCode 0))) (Err (MinuteBeyondWidth 0))
+note_answer K m codes c code = cond (nat_lt c m) (cond (nat_lt code K.q) (cond (is_none (noted_code codes c)) (Ok tt) (Err MinuteNoted)) (Err (NoCode 0))) (Err (MinuteBeyondWidth 0))
 
 -- what a note leaves, by its answer
 abbrev pub after_note : Result (Unit {0}) Refusal → List (Option ℕ) → ℕ → ℕ → List (Option ℕ)
 after_note (Ok u) codes c code = slice_set codes c (Some code)
 after_note (Err e) codes c code = codes
 
--- notes for a width: what is noted are codes, at minutes below the width
+-- notes for a width: there is room for every minute, and what is noted are codes, at minutes below the width
 pub record NotesFit (K : Operations) (m : ℕ) (codes : List (Option ℕ)) : Type 0 where
-  pub below : (c code : ℕ) → code_noted codes c ≡ Some code → c < m
-  pub code : (c code : ℕ) → code_noted codes c ≡ Some code → code < K.q
+  pub long : length codes ≡ 64
+  pub below : (c code : ℕ) → noted_code codes c ≡ Some code → c < m
+  pub code : (c code : ℕ) → noted_code codes c ≡ Some code → code < K.q
 
 -- there is one proof of it at most
 pub NotesFit-prop : (K : Operations) (m : ℕ) (codes : List (Option ℕ)) → IsProp (NotesFit K m codes)
 NotesFit-prop K m codes = Prim.hlevel props
 
 -- a choice of minutes satisfies the rows under the notes just where, with the noted codes put in, it satisfies the rows
-abbrev pub FitUnder : Operations → List (Option ℕ) → System → (ℕ → ℕ) → Type 0
-FitUnder K codes S x = SatisfiesAll K (system_under K codes S) x ↔ SatisfiesAll K S (put_in codes x)
+abbrev pub SatisfiedUnder : Operations → List (Option ℕ) → System → (ℕ → ℕ) → Type 0
+SatisfiedUnder K codes S x = SatisfiesAll K (system_under K codes S) x ↔ SatisfiesAll K S (put_in codes x)

@@ -10,7 +10,7 @@ use Rattle.frame.specs.declared.terms.Term.{Term}
 use Rattle.frame.specs.Frames.{no_term, minute_at}
 use Rattle.rows.specs.Systems.{Row, System, empty_row, row_at, WellFormedRow, WellFormed}
 use Rattle.rows.specs.Values.{weighted}
-use Rattle.notes.specs.Notes.{known, open_terms, row_under, system_under}
+use Rattle.notes.specs.Notes.{noted_alone, open_terms, row_under, system_under}
 
 module _ (K : Operations) (codes : List (Option ℕ)) where
   pub row_under_at : (S : System) (i : ℕ) → i < length S.rows → row_at (system_under K codes S) i ≡ row_under K codes (row_at S i)
@@ -21,9 +21,9 @@ module _ (K : Operations) (codes : List (Option ℕ)) where
   open_all P ts each k = All-filter _ P ts (λ k d h. subst P (get_or_default ts k no_term d h) (each k h)) k no_term
 
   module _ (L : FieldLaws K) (m : ℕ) (r : Row) (formed : WellFormedRow m r) where
-    pub row_under_formed : WellFormedRow m (row_under K codes r)
+    row_under_formed : WellFormedRow m (row_under K codes r)
     row_under_formed =
-        let code = L.plus_code r.sum (K.negative (weighted K r.terms (known codes))) in
+        let code = L.plus_code r.sum (K.negative (weighted K r.terms (noted_alone codes))) in
         let most = L.at_most in
         record {
           word = omega arith;

@@ -22,11 +22,11 @@ pub struct Noted<F: Field, R: Rows> {
 }
 
 impl<F: Field, R: Rows> Noted<F, R> {
-    ghost use Rattle.std.specs.Prelude.{◌≡◌, ◌≤◌, ◌↔◌, length};
+    ghost use Rattle.std.specs.Prelude.{◌≡◌, ℕ, ◌≤◌, ◌↔◌, length};
     ghost use Rattle.field.specs.Slices.{Filled};
     ghost use Rattle.rows.specs.Values.{choice, SatisfiesAll};
-    ghost use Rattle.notes.specs.Notes.{NotesFit, no_codes, note_answer, after_note, code_noted, count_noted, put_in};
-    ghost use Rattle.notes.specs.Layers.{codes_in, below, system_noted};
+    ghost use Rattle.notes.specs.Notes.{NotesFit, no_codes, note_answer, after_note, noted_code, noted_count, put_in, SatisfiedUnder};
+    ghost use Rattle.notes.specs.Layers.{codes_in, below, system_below, system_noted};
 
     // The rows, with no minute noted.
     pub fn new(rows: R) -> Noted<F, R>
@@ -57,7 +57,7 @@ impl<F: Field, R: Rows> Noted<F, R> {
     // Notes a code for a minute; refuses a minute not below the width (2), then a code not below the field's size (3), then
     // a minute that is noted (4).
     pub fn note(&mut self, minute: usize, code: u16) -> Result<(), Refusal>
-        ensures answer { result ≡ note_answer F.ops (R.system (below self.old)).width (codes_in self.old) minute code }
+        ensures answer { result ≡ note_answer F.ops (system_below self.old).width (codes_in self.old) minute code }
         ensures codes { codes_in self.new ≡ after_note result (codes_in self.old) minute code }
         ensures below { below self.new ≡ below self.old }
     {
@@ -83,29 +83,30 @@ impl<F: Field, R: Rows> Noted<F, R> {
     }
 
     // The noted code of a minute; none where none is noted. What is noted are codes, at minutes below the width.
-    pub fn noted(&self, minute: usize) -> Option<u16>
-        ensures code { result ≡ code_noted (codes_in self.now) minute }
-        ensures fits { NotesFit F.ops (R.system (below self.now)).width (codes_in self.now) }
+    pub fn noted_code(&self, minute: usize) -> Option<u16>
+        ensures code { result ≡ noted_code (codes_in self.now) minute }
+        ensures fits { NotesFit F.ops (system_below self.now).width (codes_in self.now) }
     {
         self.notes.code(minute)
     }
 
     // How many minutes are noted.
     pub fn noted_count(&self) -> usize
-        ensures { result ≡ count_noted (codes_in self.now) }
+        ensures { result ≡ noted_count (codes_in self.now) }
     {
         self.notes.count()
     }
 
     // Puts the noted codes into a choice of minutes, as far as x reaches. Where x has all minutes, it satisfies the rows
-    // below afterwards just where it satisfied the rows under the notes before.
+    // below afterwards just where it satisfied the rows under the notes before; the law says the same of every choice.
     pub fn put_in(&self, x: &mut [u16])
         ensures codes { Filled (length x.old) (put_in (codes_in self.now) (choice x.old)) x.old x.new }
-        ensures fits { (R.system (below self.now)).width ≤ length x.old → SatisfiesAll F.ops (system_noted self.now) (choice x.old) ↔ SatisfiesAll F.ops (R.system (below self.now)) (choice x.new) }
+        ensures satisfies { (system_below self.now).width ≤ length x.old → SatisfiesAll F.ops (system_noted self.now) (choice x.old) ↔ SatisfiesAll F.ops (system_below self.now) (choice x.new) }
+        ensures law { (y : ℕ → ℕ) → SatisfiedUnder F.ops (codes_in self.now) (system_below self.now) y }
     {
-        for minute in 0..x.len() {
+        for (minute, place) in x.iter_mut().enumerate() {
             if let Some(code) = self.notes.code(minute) {
-                x[minute] = code;
+                *place = code;
             }
         }
     }
@@ -113,16 +114,16 @@ impl<F: Field, R: Rows> Noted<F, R> {
 
 // The calls of a ledger below. The notes stay.
 impl<F: Field, L: Ledger> Noted<F, L> {
-    ghost use Rattle.std.specs.Prelude.{◌≡◌, ℕ};
+    ghost use Rattle.std.specs.Prelude.{◌≡◌};
     ghost use Rattle.rows.specs.Ledgers.{row_of, take_answer, after_take, strike_answer, after_strike, cleared};
-    ghost use Rattle.rows.specs.Values.{OthersFit};
+    ghost use Rattle.rows.specs.Values.{OthersSatisfied};
     ghost use Rattle.notes.specs.Notes.{row_under};
-    ghost use Rattle.notes.specs.Layers.{codes_in, below, system_noted};
+    ghost use Rattle.notes.specs.Layers.{codes_in, below, system_below, system_noted};
 
     // Takes a frame as the ledger below does; a row under the notes is added to those shown.
     pub fn take(&mut self, frame: &Frame<'_>) -> Result<usize, Refusal>
-        ensures answer { result ≡ take_answer (L.system (below self.old)) (L.most (below self.old)) (row_of frame.now) }
-        ensures after { L.system (below self.new) ≡ after_take result (L.system (below self.old)) (row_of frame.now) }
+        ensures answer { result ≡ take_answer (system_below self.old) (L.most (below self.old)) (row_of frame.now) }
+        ensures after { system_below self.new ≡ after_take result (system_below self.old) (row_of frame.now) }
         ensures shown { system_noted self.new ≡ after_take result (system_noted self.old) (row_under F.ops (codes_in self.old) (row_of frame.now)) }
         ensures kept { L.most (below self.new) ≡ L.most (below self.old) }
         ensures codes { codes_in self.new ≡ codes_in self.old }
@@ -130,13 +131,13 @@ impl<F: Field, L: Ledger> Noted<F, L> {
         self.below.take(frame)
     }
 
-    // Makes a row empty as the ledger below does; the row shown is empty too, and whichever choice of minutes satisfied
-    // another row shown satisfies it still.
+    // Makes a row empty as the ledger below does; the row shown is empty too, and each choice of minutes satisfies
+    // another row shown just where it did.
     pub fn strike(&mut self, row: usize) -> Result<(), Refusal>
-        ensures answer { result ≡ strike_answer (L.system (below self.old)) row }
-        ensures after { L.system (below self.new) ≡ after_strike result (L.system (below self.old)) row }
+        ensures answer { result ≡ strike_answer (system_below self.old) row }
+        ensures after { system_below self.new ≡ after_strike result (system_below self.old) row }
         ensures shown { system_noted self.new ≡ after_strike result (system_noted self.old) row }
-        ensures others { OthersFit (system_noted self.old) (system_noted self.new) row }
+        ensures others { OthersSatisfied (system_noted self.old) (system_noted self.new) row }
         ensures kept { L.most (below self.new) ≡ L.most (below self.old) }
         ensures codes { codes_in self.new ≡ codes_in self.old }
     {
@@ -145,7 +146,7 @@ impl<F: Field, L: Ledger> Noted<F, L> {
 
     // Removes all rows.
     pub fn clear_rows(&mut self)
-        ensures after { L.system (below self.new) ≡ cleared (L.system (below self.old)) }
+        ensures after { system_below self.new ≡ cleared (system_below self.old) }
         ensures shown { system_noted self.new ≡ cleared (system_noted self.old) }
         ensures kept { L.most (below self.new) ≡ L.most (below self.old) }
         ensures codes { codes_in self.new ≡ codes_in self.old }
@@ -171,12 +172,14 @@ impl<F: Field, R: Rows> Rows for Noted<F, R> {
     }
 
     fn term_count(&self, row: usize) -> Option<usize> {
+        // The closure borrows the notes and not the whole layer.
         let notes = &self.notes;
         let open = terms(&self.below, row)?.filter(|term| notes.is_open(term.minute));
         Some(open.count())
     }
 
     fn term(&self, row: usize, number: usize) -> Option<Term> {
+        // As above.
         let notes = &self.notes;
         let mut open = terms(&self.below, row)?.filter(|term| notes.is_open(term.minute));
         open.nth(number)

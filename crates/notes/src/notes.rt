@@ -1,10 +1,8 @@
 //! The codes that are noted.
 ghost use Rattle.std.specs.Prelude.{◌≡◌, length};
 
+use rows::sizes::MOST_MINUTES;
 use rows::values::Choice;
-
-// The most minutes that rows can have.
-pub const MOST_MINUTES: usize = 64;
 
 // Noted codes, one for a minute at most.
 #[derive(Clone, Copy)]
@@ -14,9 +12,9 @@ pub struct Notes {
 }
 
 impl Notes {
-    ghost use Rattle.std.specs.Prelude.{◌≡◌, slice_set, Some};
+    ghost use Rattle.std.specs.Prelude.{◌≡◌, ◌<◌, slice_set, Some};
     ghost use Rattle.std.specs.Option.{is_none};
-    ghost use Rattle.notes.specs.Notes.{code_noted, no_codes, count_noted};
+    ghost use Rattle.notes.specs.Notes.{noted_code, no_codes, noted_count};
 
     // Nothing is noted.
     pub fn new() -> Notes
@@ -29,39 +27,39 @@ impl Notes {
 
     // The code of a minute; none where none is noted.
     pub fn code(&self, minute: usize) -> Option<u16>
-        ensures { result ≡ code_noted self.now.codes minute }
+        ensures { result ≡ noted_code self.now.codes minute }
     {
         self.codes.get(minute).copied().flatten()
     }
 
     // Whether a minute is not noted.
     pub fn is_open(&self, minute: u16) -> bool
-        ensures { result ≡ is_none (code_noted self.now.codes minute) }
+        ensures { result ≡ is_none (noted_code self.now.codes minute) }
     {
         self.code(usize::from(minute)).is_none()
     }
 
     // How many minutes are noted.
     pub fn count(&self) -> usize
-        ensures { result ≡ count_noted self.now.codes }
+        ensures { result ≡ noted_count self.now.codes }
     {
         self.codes.iter().filter(|code| code.is_some()).count()
     }
 
+    // Gives a minute its code.
     pub fn set(&mut self, minute: usize, code: u16)
+        requires { minute < 64 }
         ensures { self.new.codes ≡ slice_set self.old.codes minute (Some code) }
     {
-        if minute < MOST_MINUTES {
-            self.codes[minute] = Some(code);
-        }
+        self.codes[minute] = Some(code);
     }
 }
 
 // The noted codes alone: elsewhere a code is 0.
 impl Choice for Notes {
-    ghost use Rattle.notes.specs.Notes.{known};
+    ghost use Rattle.notes.specs.Notes.{noted_alone};
 
-    ghost codes = { λ notes. known notes.codes };
+    ghost codes = { λ notes. noted_alone notes.codes };
 
     fn code(&self, minute: u16) -> u16 {
         self.code(usize::from(minute)).unwrap_or(0)

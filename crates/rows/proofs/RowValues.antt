@@ -41,20 +41,20 @@ module _ (F : Lawful) (x : ℕ → ℕ) where
   weighted_code [] = let two = F.two_codes in omega arith
   weighted_code (t ∷ ts) = F.plus_code (F.ops.times t.weight (x t.minute)) (weighted F.ops ts x)
 
-  pub none_weighted : (ts : List Term) → F.ops.plus 0 (weighted F.ops ts x) ≡ weighted F.ops ts x
+  none_weighted : (ts : List Term) → F.ops.plus 0 (weighted F.ops ts x) ≡ weighted F.ops ts x
   none_weighted ts = field.zero-plus F (weighted F.ops ts x) ∙ mod-eq_of_lt (weighted_code ts)
 
   -- one term more in the total, one less to come
-  pub term_weighted : (total : ℕ) (t : Term) (ts : List Term) → F.ops.plus (F.ops.plus total (F.ops.times t.weight (x t.minute))) (weighted F.ops ts x) ≡ F.ops.plus total (weighted F.ops (t ∷ ts) x)
+  term_weighted : (total : ℕ) (t : Term) (ts : List Term) → F.ops.plus (F.ops.plus total (F.ops.times t.weight (x t.minute))) (weighted F.ops ts x) ≡ F.ops.plus total (weighted F.ops (t ∷ ts) x)
   unfolding weighted
   term_weighted total t ts = F.plus_assoc total (F.ops.times t.weight (x t.minute)) (weighted F.ops ts x)
 
-  pub all_weighted : (total : ℕ) → total < F.ops.q → F.ops.plus total (weighted F.ops [] x) ≡ total
+  all_weighted : (total : ℕ) → total < F.ops.q → F.ops.plus total (weighted F.ops [] x) ≡ total
   unfolding weighted
   all_weighted total h = F.plus-zero total ∙ mod-eq_of_lt h
 
   -- the terms added up in order
-  pub added_weighted : (total : ℕ) (ts : List Term) → total < F.ops.q → fold (λ a t. F.ops.plus a (F.ops.times t.weight (x t.minute))) total ts ≡ F.ops.plus total (weighted F.ops ts x)
+  added_weighted : (total : ℕ) (ts : List Term) → total < F.ops.q → fold (λ a t. F.ops.plus a (F.ops.times t.weight (x t.minute))) total ts ≡ F.ops.plus total (weighted F.ops ts x)
   added_weighted total [] h = sym (all_weighted total h)
   added_weighted total (t ∷ ts) h =
       let product = F.ops.times t.weight (x t.minute) in

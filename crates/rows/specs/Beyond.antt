@@ -1,29 +1,17 @@
 -- The first minute beyond a width. Assumes nothing.
-use Rattle.std.specs.Prelude.{◌≡◌, ℕ, ◌+◌, ◌<◌, Bool, true, false, List, length, Some, None, Ok, Option, nat_le, nat_lt, refl}
-use Rattle.std.proofs.Common.{sym, ◌≤◌, drop}
-use Rattle.std.proofs.lemmas.List.{drop_more}
-use Rattle.std.proofs.lemmas.Bool.{le-leb, ltb-true, leb-false, lt-leb}
+use Rattle.std.specs.Prelude.{◌≡◌, ℕ, ◌<◌, Bool, true, false, List, length, Some, None, Ok, Option, nat_le, nat_lt, refl}
+use Rattle.std.proofs.Common.{sym}
+use Rattle.std.proofs.lemmas.Bool.{ltb-true, leb-false}
 use Rattle.frame.specs.declared.terms.Term.{Term}
 use Rattle.frame.specs.Frames.{no_term, minute_at}
 use Rattle.frame.proofs.Apart.{err_ok}
-use Rattle.frame.proofs.Positions.{none_passes, none_found}
+use Rattle.frame.proofs.Positions.{none_passes}
 use Rattle.rows.specs.Systems.{Row, System}
 use Rattle.rows.specs.Ledgers.{first_beyond, admitted, take_answer}
 
--- one term of the walk
-module _ (m at : ℕ) (ts : List Term) (i : ℕ) (h : i < length ts) where
-  pub here_beyond : m ≤ minute_at ts i → first_beyond m at (drop i ts) ≡ Some at
-  here_beyond g = rw (drop_more ts i no_term h, le-leb m (minute_at ts i) g)
-
-  pub later_beyond : minute_at ts i < m → first_beyond m at (drop i ts) ≡ first_beyond m (at + 1) (drop (i + 1) ts)
-  later_beyond l = rw (drop_more ts i no_term h, lt-leb m (minute_at ts i) l)
-
--- no term is beyond just where all minutes are below
+-- where no term is beyond, all minutes are below
 pub none_beyond : (m at : ℕ) (ts : List Term) → first_beyond m at ts ≡ None → (k : ℕ) → k < length ts → minute_at ts k < m
 none_beyond m at ts e k h = leb-false m (minute_at ts k) (none_passes (λ t. nat_le m t.minute) no_term at ts e k h)
-
-pub all_below_lem : (m at : ℕ) (ts : List Term) → ((k : ℕ) → k < length ts → minute_at ts k < m) → first_beyond m at ts ≡ None
-all_below_lem m at ts below = none_found (λ t. nat_le m t.minute) no_term at ts (λ k h. lt-leb m (minute_at ts k) (below k h))
 
 admitted_ok : (first : Option ℕ) (room : Bool) (n row : ℕ) → Ok row ≡ admitted first room n → (first ≡ None) × (room ≡ true) × (row ≡ n)
 admitted_ok (Some term) room n row e = absurd (err_ok _ row (sym e))

@@ -5,6 +5,13 @@ use Rattle.rows.specs.declared.caps.Cap.{Cap}
 use Rattle.rows.specs.Systems.{System}
 use Rattle.rows.specs.Ledgers.{LimitInRange}
 
+-- a cap's own number, and the ledger below
+abbrev pub own_number : {X : Type 0} → Cap X → ℕ
+own_number cap = cap.own.number
+
+abbrev pub ledger_below : {X : Type 0} → Cap X → X
+ledger_below cap = cap.below
+
 -- the rows are those below
 abbrev pub cap_system : {X : Type 0} → (X → System) → Cap X → System
 cap_system system cap = system cap.below

@@ -1,16 +1,14 @@
 -- The rows of a table's slots. Assumes nothing.
-use Rattle.std.specs.Prelude.{◌≡◌, ℕ, ◌+◌, ◌<◌, ◌≤◌, List, map, length, take, Some, None, Ok, Option, nat_lt, slice_index_or, slice_set, [], ◌∷◌, ◌++◌}
+use Rattle.std.specs.Prelude.{◌≡◌, ℕ, ◌+◌, ◌<◌, ◌≤◌, List, map, length, take, Some, None, Ok, Option, nat_lt, slice_index_or, slice_set}
 use Rattle.std.proofs.Common.{sym, ap, subst, ◌∙◌, inl, inr, arith, lit≤, not-suc-le-zero}
 use Rattle.std.proofs.Math.Seq.{take-set-lt}
-use Rattle.std.proofs.lemmas.List.{length-map, length-take-le, get_or-map, get_or-take, get_or-set_same, get_or-set_other, map-set, get_or_default, map_push, take_more_set}
-use Rattle.std.specs.List.{slice_get}
-use Rattle.std.proofs.lemmas.Option.{slice_get-get_or, slice_get_past}
+use Rattle.std.proofs.lemmas.List.{length-map, length-take-le, get_or-map, get_or-take, get_or-set_same, get_or-set_other, map-set}
 use Rattle.std.proofs.lemmas.Bool.{cases_eq}
 use Rattle.frame.specs.declared.frames.Frame.{Frame}
 use Rattle.frame.specs.declared.buffers.FrameBuf.{FrameBuf}
 use Rattle.frame.specs.Frames.{minute_at}
-use Rattle.frame.specs.Parts.{sum_of, terms_of}
-use Rattle.frame.specs.Owned.{sum_in, terms_in}
+use Rattle.frame.specs.Parts.{terms_of}
+use Rattle.frame.specs.Owned.{terms_in}
 use Rattle.rows.specs.declared.tables.Table.{Table}
 use Rattle.rows.specs.Systems.{empty_row, WellFormedRow, WellFormed}
 use Rattle.rows.specs.Ledgers.{LimitInRange, row_of, first_beyond, admitted, take_answer}
@@ -28,25 +26,13 @@ module _ (n : ℕ) (slots : List (Option FrameBuf)) (fits : n ≤ length slots) 
       let long = length-take-le n slots fits in
       get_or-map slot_row (take n slots) i None empty_row (omega arith) ∙ ap slot_row (get_or-take n slots i None h)
 
-  -- whatever is read past the last slot
-  pub row_found : (i : ℕ) (d : Option FrameBuf) → i < n → slice_get (map slot_row (take n slots)) i ≡ Some (slot_row (slice_index_or slots i d))
-  row_found i d h =
-      let long = row_count in
-      slice_get-get_or (map slot_row (take n slots)) i empty_row (omega arith) ∙ ap Some (slot_at i h ∙ ap slot_row (get_or_default slots i None d (omega arith)))
-
-  pub row_missing : (i : ℕ) → n ≤ i → slice_get (map slot_row (take n slots)) i ≡ None
-  row_missing i h = let long = row_count in slice_get_past (map slot_row (take n slots)) i (omega arith)
-
 -- a table's slots are there
 pub slots_fit : (t : Table) → t.count ≤ length t.slots
 slots_fit t = omega (arith, t.room, t.few)
 
--- what a strike leaves, and a take
+-- what a strike leaves
 pub rows_struck : (n : ℕ) (slots : List (Option FrameBuf)) (i : ℕ) → i < n → map slot_row (take n (slice_set slots i None)) ≡ slice_set (map slot_row (take n slots)) i empty_row
 rows_struck n slots i h = ap (map slot_row) (take-set-lt n slots i None h) ∙ map-set slot_row (take n slots) i None
-
-pub rows_taken : (n : ℕ) (slots : List (Option FrameBuf)) (s : Option FrameBuf) → n < length slots → map slot_row (take (n + 1) (slice_set slots n s)) ≡ map slot_row (take n slots) ++ (slot_row s ∷ [])
-rows_taken n slots s h = ap (map slot_row) (take_more_set slots n s h) ∙ map_push slot_row (take n slots) s
 
 -- a slot's row is well-formed once its minutes are below the width
 pub slot_formed : (m : ℕ) (s : Option FrameBuf) → ((k : ℕ) → k < length (slot_row s).terms → minute_at (slot_row s).terms k < m) → WellFormedRow m (slot_row s)
@@ -79,7 +65,7 @@ table_answer t m limit f wide =
     ∙ ap (λ n. admitted (first_beyond t.width.number 0 (terms_of f)) (nat_lt n limit) n) (sym (row_count t.count t.slots (slots_fit t)))
 
 -- a frame that is admitted goes into the next slot
-module _ (t : Table) (held : FrameBuf) (f : Frame) (row : ℕ) (sums : sum_in held ≡ sum_of f) (holds : terms_in held ≡ terms_of f) (admits : Ok row ≡ take_answer (system_of t) 96 (row_of f)) where
+module _ (t : Table) (held : FrameBuf) (f : Frame) (row : ℕ) (holds : terms_in held ≡ terms_of f) (admits : Ok row ≡ take_answer (system_of t) 96 (row_of f)) where
   next_row : row ≡ t.count
   next_row = taken_number (system_of t) 96 (row_of f) row admits ∙ row_count t.count t.slots (slots_fit t)
 
@@ -100,10 +86,3 @@ module _ (t : Table) (held : FrameBuf) (f : Frame) (row : ℕ) (sums : sum_in he
             let l : i < t.count = omega (arith, next_row) in
             rw (get_or-set_other t.slots row i (Some held) None other) (t.below i k l)
       ]
-
-  pub rows_after : map slot_row (take (row + 1) (slice_set t.slots row (Some held))) ≡ map slot_row (take t.count t.slots) ++ (row_of f ∷ [])
-  rows_after =
-      rows_taken row t.slots (Some held) (omega (arith, t.room, has_room))
-      ∙ ap (λ n. map slot_row (take n t.slots) ++ (slot_row (Some held) ∷ [])) next_row
-      ∙ ap (λ ts. map slot_row (take t.count t.slots) ++ (record { sum = sum_in held; terms = ts } ∷ [])) holds
-      ∙ ap (λ b. map slot_row (take t.count t.slots) ++ (record { sum = b; terms = terms_of f } ∷ [])) sums

@@ -1,7 +1,8 @@
 //! A cap over a ledger.
 ghost use Rattle.std.specs.Prelude.{◌≡◌};
 ghost use Rattle.rows.specs.Ledgers.{row_of, take_answer, after_take};
-ghost use Rattle.rows.specs.Caps.{cap_system, cap_limit, smaller_limit, PileLaw};
+ghost use Rattle.rows.specs.Sizes.{number_of};
+ghost use Rattle.rows.specs.Caps.{own_number, ledger_below, cap_system, cap_limit, smaller_limit, PileLaw};
 
 use crate::ledgers::{Ledger, admit};
 use crate::reading::Rows;
@@ -19,22 +20,22 @@ pub struct Cap<L> {
 
 impl<L> Cap<L> {
     pub fn new(own: Limit, below: L) -> Cap<L>
-        ensures own { result.own ≡ own }
-        ensures below { result.below ≡ below }
+        ensures own { own_number result ≡ number_of 96 own }
+        ensures below { ledger_below result ≡ below }
     {
         Cap { own, below }
     }
 
     // The ledger below, for reading.
     pub fn below(&self) -> &L
-        ensures { result.now ≡ self.now.below }
+        ensures { result.now ≡ ledger_below self.now }
     {
         &self.below
     }
 
     // The ledger below; the cap is gone.
     pub fn into_below(self) -> L
-        ensures { result ≡ self.below }
+        ensures { result ≡ ledger_below self }
     {
         self.below
     }
@@ -94,9 +95,9 @@ pub fn take_into_pile<L: Ledger>(
     pile: &mut Cap<Cap<L>>,
     frame: &Frame<'_>,
 ) -> Result<usize, Refusal>
-    ensures answer { result ≡ take_answer (cap_system (cap_system L.system) pile.old) (cap_limit (cap_limit L.most) pile.old) (row_of frame.now) }
-    ensures after { cap_system (cap_system L.system) pile.new ≡ after_take result (cap_system (cap_system L.system) pile.old) (row_of frame.now) }
-    ensures kept { cap_limit (cap_limit L.most) pile.new ≡ cap_limit (cap_limit L.most) pile.old }
+    ensures answer { result ≡ take_answer (⟦<Cap<Cap<L>> as Rows>⟧.system pile.old) (⟦<Cap<Cap<L>> as Ledger>⟧.most pile.old) (row_of frame.now) }
+    ensures after { ⟦<Cap<Cap<L>> as Rows>⟧.system pile.new ≡ after_take result (⟦<Cap<Cap<L>> as Rows>⟧.system pile.old) (row_of frame.now) }
+    ensures kept { ⟦<Cap<Cap<L>> as Ledger>⟧.most pile.new ≡ ⟦<Cap<Cap<L>> as Ledger>⟧.most pile.old }
 {
     pile.take(frame)
 }

@@ -2,7 +2,7 @@
 ghost use Rattle.std.specs.Prelude.{◌≡◌, ℕ, nat_lt};
 ghost use Rattle.frame.specs.Parts.{terms_of};
 ghost use Rattle.rows.specs.Ledgers.{LimitInRange, row_of, first_beyond, admitted, take_answer, after_take, strike_answer, after_strike, cleared};
-ghost use Rattle.rows.specs.Values.{OthersFit};
+ghost use Rattle.rows.specs.Values.{OthersSatisfied};
 
 use crate::reading::Rows;
 use frame::frames::Frame;
@@ -23,12 +23,12 @@ pub trait Ledger: Rows {
         ensures after { Self.Rows.system self.new ≡ after_take result (Self.Rows.system self.old) (row_of frame.now) }
         ensures kept { most self.new ≡ most self.old };
 
-    // Makes a row empty; refuses a row that does not exist (9). The other rows keep their numbers, and whichever choice of
-    // minutes satisfied one of them satisfies it still.
+    // Makes a row empty; refuses a row that does not exist (9). The other rows keep their numbers, and each choice of
+    // minutes satisfies one of them just where it did.
     fn strike(&mut self, row: usize) -> Result<(), Refusal>
         ensures answer { result ≡ strike_answer (Self.Rows.system self.old) row }
         ensures after { Self.Rows.system self.new ≡ after_strike result (Self.Rows.system self.old) row }
-        ensures others { OthersFit (Self.Rows.system self.old) (Self.Rows.system self.new) row }
+        ensures others { OthersSatisfied (Self.Rows.system self.old) (Self.Rows.system self.new) row }
         ensures kept { most self.new ≡ most self.old };
 
     // Removes all rows.

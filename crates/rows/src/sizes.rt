@@ -12,11 +12,17 @@ pub struct Size<const MOST: usize> {
     ghost most: { number ≤ MOST },
 }
 
+// How many minutes an hour can have.
+pub const MOST_MINUTES: usize = 64;
+
+// How many rows there can be.
+pub const MOST_ROWS: usize = 96;
+
 // The number of minutes of an hour.
-pub type Width = Size<64>;
+pub type Width = Size<MOST_MINUTES>;
 
 // How many rows a ledger takes.
-pub type Limit = Size<96>;
+pub type Limit = Size<MOST_ROWS>;
 
 // The size of this number, or refusal 16 for one that is not 1 to MOST.
 impl<const MOST: usize> TryFrom<usize> for Size<MOST> {

@@ -5,14 +5,11 @@ ghost use Rattle.rows.specs.Slots.{slot_row};
 
 use crate::ledgers::{Ledger, admit};
 use crate::reading::Rows;
-use crate::sizes::Width;
+use crate::sizes::{MOST_ROWS, Width};
 use frame::buffers::FrameBuf;
 use frame::frames::Frame;
 use frame::refusals::Refusal;
 use frame::terms::Term;
-
-// A table holds up to MOST_ROWS rows.
-pub const MOST_ROWS: usize = 96;
 
 // A row's place in a table: the frame that was taken, or none once it is struck.
 type Slot = Option<FrameBuf>;
@@ -33,11 +30,12 @@ impl Table {
     ghost use Rattle.std.specs.Prelude.{◌≡◌, [], take};
     ghost use Rattle.std.specs.List.{slice_get};
     ghost use Rattle.std.specs.Option.{option_map};
+    ghost use Rattle.rows.specs.Sizes.{number_of};
     ghost use Rattle.rows.specs.Tables.{system_of};
 
     // A table without rows.
     pub fn new(width: Width) -> Table
-        ensures { system_of result ≡ record { width = width.number; rows = [] } }
+        ensures { system_of result ≡ record { width = number_of 64 width; rows = [] } }
     {
         Table {
             width,

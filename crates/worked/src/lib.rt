@@ -26,7 +26,7 @@ mod tests {
     use std::process::Abort;
     use std::test::Fail;
 
-    fn term(minute: u16, weight: u16) -> Term {
+    pub(crate) fn term(minute: u16, weight: u16) -> Term {
         Term { minute, weight }
     }
 

@@ -1,4 +1,5 @@
 //! Worked examples of rows, ledgers and notes.
+use crate::tests::term;
 use field::fields::Field;
 use field::octets::Octets;
 use field::primes::Prime;
@@ -6,7 +7,7 @@ use frame::frames::Frame;
 use frame::refusals::Refusal;
 use frame::terms::Term;
 use notes::layers::Noted;
-use rows::caps::Cap;
+use rows::caps::{Cap, take_into_pile};
 use rows::ledgers::Ledger;
 use rows::reading::Rows;
 use rows::sizes::{Limit, Width};
@@ -14,10 +15,6 @@ use rows::tables::Table;
 use rows::values::{entry, row_value};
 use std::process::Abort;
 use std::test::Fail;
-
-fn term(minute: u16, weight: u16) -> Term {
-    Term { minute, weight }
-}
 
 fn table(width: usize) -> Result<Table, Fail> {
     Ok(Table::new(Width::try_from(width).ok().ok_or("width")?))
@@ -43,6 +40,7 @@ fn reads<R: Rows>(rt: &impl Abort, rows: &R, row: usize, sum: u16, terms: &[Term
 
 // The ledger takes `most` rows and refuses one more.
 fn fills<L: Ledger + Drop>(rt: &impl Abort, mut ledger: L, most: usize) {
+    assert_eq!(rt; ledger.limit(), most);
     for row in 0..most {
         assert_eq!(rt; take(&mut ledger, 7, &[term(0, 1)]), Ok(row));
     }
@@ -61,6 +59,14 @@ fn ledgers_fill(rt: HostRuntime) -> Result<(), Fail> {
     fills(&rt, cap(1, table(1)?)?, 1);
     fills(&rt, cap(5, cap(3, table(1)?)?)?, 3);
     fills(&rt, cap(3, cap(5, table(1)?)?)?, 3);
+    let mut pile = cap(3, cap(1, table(64)?)?)?;
+    let terms = [term(63, 1)];
+    let frame = Frame::check(7, &terms).ok().ok_or("frame")?;
+    for answer in [Ok(0), Err(Refusal::LedgerFull)] {
+        assert_eq!(rt; take_into_pile(&mut pile, &frame), answer);
+    }
+    reads(&rt, pile.below(), 0, 7, &terms);
+    assert_eq!(rt; pile.into_below().into_below().width(), 64);
     Ok(())
 }
 
@@ -120,10 +126,14 @@ fn noted_rows<F: Field>(rt: &impl Abort) -> Result<Noted<F, Table>, Fail> {
     Ok(noted)
 }
 
-// The values wanted: the sums under the notes.
+// The values wanted: the sums under the notes. These take 2 · 1 + 4 · 2 off each, which is 10 in both fields; 65535 is 14
+// modulo 65521, and 255 in the octets.
 fn notes_work<F: Field>(rt: &impl Abort, sums: [u16; 3]) -> Result<(), Fail> {
     let noted: Noted<F, Table> = noted_rows(rt)?;
     assert_eq!(rt; noted.noted_count(), 2);
+    for (minute, code) in [(0, Some(1)), (62, None), (63, Some(2)), (64, None)] {
+        assert_eq!(rt; noted.noted_code(minute), code);
+    }
     reads(rt, &noted, 0, sums[0], &[term(5, 3)]);
     reads(rt, &noted, 1, sums[1], &[term(62, 3)]);
     reads(rt, &noted, 2, sums[2], &[term(1, 3)]);
@@ -142,6 +152,15 @@ fn notes_work_in_both_fields(rt: HostRuntime) -> Result<(), Fail> {
 }
 
 #[test]
+fn notes_stand_over_notes(rt: HostRuntime) -> Result<(), Fail> {
+    let mut upper: Noted<Prime, Noted<Prime, Table>> = Noted::new(noted_rows(&rt)?);
+    assert_eq!(rt; upper.note(5, 65520), Ok(()));
+    reads(&rt, &upper, 0, 5, &[]);
+    reads(&rt, upper.below(), 0, 2, &[term(5, 3)]);
+    Ok(())
+}
+
+#[test]
 fn a_ledger_under_notes(rt: HostRuntime) -> Result<(), Fail> {
     let mut noted: Noted<Prime, Cap<Table>> = Noted::new(cap(2, table(2)?)?);
     assert_eq!(rt; noted.note(1, 7), Ok(()));
@@ -157,6 +176,7 @@ fn a_ledger_under_notes(rt: HostRuntime) -> Result<(), Fail> {
     reads(&rt, &noted, 1, 18, &terms);
     noted.clear_rows();
     assert_eq!(rt; noted.row_count(), 0);
+    assert_eq!(rt; noted.into_below().limit(), 2);
     Ok(())
 }
 

@@ -1,6 +1,6 @@
 use Rattle.std.proofs.Common.{sym, ap, subst, ◌∙◌}
 use Rattle.field.specs.LawsForAll.{lawful}
-use Rattle.rows.specs.Values.{OthersFit}
+use Rattle.rows.specs.Values.{OthersSatisfied}
 use Rattle.rows.proofs.Fits.{strike_others}
 use Rattle.notes.specs.Notes.{system_under}
 use Rattle.notes.specs.Layers.{system_noted}
@@ -16,4 +16,4 @@ returns-clause-shown g c =
 pub returns-clause-others : goal.returns-clause-others
 returns-clause-others g c =
     let S = system_noted c.args.self.now in
-    subst (λ T. OthersFit S T c.args.row) (sym (returns-clause-shown g c)) (strike_others S c.args.row c.strike.result)
+    subst (λ T. OthersSatisfied S T c.args.row) (sym (returns-clause-shown g c)) (strike_others S c.args.row c.strike.result)

@@ -1,11 +1,8 @@
 use Rattle.std.proofs.Common.{sym, ap, ◌∙◌, rules, tests}
-use Rattle.std.specs.Option.{is_none}
 use Rattle.std.proofs.lemmas.Iterator.Adapters.{option_map_id}
-use Rattle.std.proofs.lemmas.Iterator.Consumers.{YieldsList-from_first, YieldsList-from_filter, nth_from_yields_List}
-use Rattle.frame.specs.declared.terms.Term.{Term}
+use Rattle.std.proofs.lemmas.Iterator.Consumers.{nth_from_yields_List}
 use Rattle.rows.specs.RowTerms.{terms_left}
-use Rattle.notes.specs.Notes.{code_noted}
-use Rattle.notes.proofs.Readings.{open_term}
+use Rattle.notes.proofs.Readings.{open_yielded, open_term}
 use Rattle.notes.proofs.layers.NotedRows.term.Goals as goal
 
 pub returns : goal.returns
@@ -14,8 +11,5 @@ returns g c =
     let codes = c.args.self.now.notes.codes in
     let ts = terms_left system c.in_ok-terms.field-0 in
     sym (option_map_id c.nth.result)
-    ∙ nth_from_yields_List c.nth.result c.nth.new.self c.args.number c.nth.ensures.ran
-    (YieldsList-from_filter _ (λ (t : Term). is_none (code_noted codes t.minute))
-    (YieldsList-from_first (λ t. t) (terms_left system) ts (ap (terms_left system) c.filter-open.ensures.source))
-    c.filter-open.ensures.closure (λ t b q k. search (rules, tests)))
+    ∙ nth_from_yields_List c.nth.result c.nth.new.self c.args.number c.nth.ensures.ran (open_yielded system codes ts (ap (terms_left system) c.filter-open.ensures.source) c.filter-open.ensures.closure (λ t b q k. search (rules, tests)))
     ∙ open_term g.F.Field.ops codes (system c.args.self.now.below) c.args.row ts c.in_ok-terms.ensures c.args.number

@@ -1,7 +1,7 @@
 use Rattle.std.proofs.Common.{Ok, Err, refl, sym, ap, subst, arith}
 use Rattle.frame.specs.declared.refusals.Refusal.TheVariants.{NoSuchRow}
 use Rattle.std.proofs.lemmas.Bool.{cond_below}
-use Rattle.rows.specs.Values.{OthersFit}
+use Rattle.rows.specs.Values.{OthersSatisfied}
 use Rattle.rows.specs.Tables.{system_of}
 use Rattle.rows.specs.SlotRows.{row_count, rows_struck, slots_fit}
 use Rattle.rows.proofs.Fits.{struck_others}
@@ -16,6 +16,6 @@ returns c =
     record {
       answer = cond_below _ _ (Ok tt) (Err NoSuchRow) (omega (arith, c.if-row-self.false));
       after = ap (λ rows. record { width = t.width.number; rows = rows }) gone;
-      others = subst (λ rows. OthersFit (system_of t) (record { width = t.width.number; rows = rows }) row) (sym gone) (struck_others (system_of t) row);
+      others = subst (λ rows. OthersSatisfied (system_of t) (record { width = t.width.number; rows = rows }) row) (sym gone) (struck_others (system_of t) row);
       kept = refl;
     }

@@ -8,9 +8,9 @@ invariant_of-self c =
     let f = c.args.frame.now in
     let row = c.in_ok-row.row in
     let answer = c.in_ok-row.ensures ∙ table_answer t c.number.result 96 f c.number.ensures in
-    let room = has_room t c.from.result f row c.from.ensures.0 c.from.ensures.1 answer in
+    let room = has_room t c.from.result f row c.from.ensures.1 answer in
     record {
       room = length-set t.slots row _ ∙ t.room;
       few = omega arith;
-      below = still_below t c.from.result f row c.from.ensures.0 c.from.ensures.1 answer;
+      below = still_below t c.from.result f row c.from.ensures.1 answer;
     }
