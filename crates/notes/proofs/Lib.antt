@@ -1,4 +1,4 @@
 mod NoNotes
 mod Readings
-mod Fits
-mod Ledgers
+mod Satisfied
+mod Strikes

@@ -2,7 +2,7 @@ use Rattle.std.proofs.Common.{◌↔◌, subst, arith}
 use Rattle.field.specs.LawsForAll.{lawful}
 use Rattle.rows.specs.Values.{choice, SatisfiesAll}
 use Rattle.notes.specs.Layers.{system_noted}
-use Rattle.notes.proofs.Fits.{all_satisfied, put_everywhere}
+use Rattle.notes.proofs.Satisfied.{all_satisfied, put_everywhere}
 use Rattle.notes.proofs.layers.Noted.put_in.Goals as goal
 
 pub returns-clause-satisfies : goal.returns-clause-satisfies

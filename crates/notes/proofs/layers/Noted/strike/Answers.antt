@@ -1,10 +1,10 @@
 use Rattle.std.proofs.Common.{sym, ap, subst, ◌∙◌}
 use Rattle.field.specs.LawsForAll.{lawful}
 use Rattle.rows.specs.Values.{OthersSatisfied}
-use Rattle.rows.proofs.Fits.{strike_others}
+use Rattle.rows.proofs.Strikes.{strike_others}
 use Rattle.notes.specs.Notes.{system_under}
 use Rattle.notes.specs.Layers.{system_noted}
-use Rattle.notes.proofs.Ledgers.{struck_under}
+use Rattle.notes.proofs.Strikes.{struck_under}
 use Rattle.notes.proofs.layers.Noted.strike.Goals as goal
 
 pub returns-clause-shown : goal.returns-clause-shown

@@ -4,7 +4,7 @@ use Rattle.std.proofs.lemmas.Bool.{cond_below}
 use Rattle.rows.specs.Values.{OthersSatisfied}
 use Rattle.rows.specs.Tables.{system_of}
 use Rattle.rows.specs.SlotRows.{row_count, rows_struck, slots_fit}
-use Rattle.rows.proofs.Fits.{struck_others}
+use Rattle.rows.proofs.Strikes.{struck_others}
 use Rattle.rows.proofs.tables.TableLedger.strike.Goals as goal
 
 pub returns : goal.returns

@@ -1,4 +1,4 @@
--- What a strike leaves of a choice's fit. Assumes nothing.
+-- After a strike the other rows are satisfied as before. Assumes nothing.
 use Rattle.std.proofs.Common.{ℕ, Ok, Err, Result, sym, subst}
 use Rattle.std.proofs.lemmas.List.{get_or-set_other}
 use Rattle.frame.specs.declared.refusals.Refusal.{Refusal}

@@ -1,4 +1,4 @@
--- A choice of minutes fits the rows under notes just where it fits the rows with the noted codes put in. Assumes nothing.
+-- A choice of minutes satisfies the rows under notes just where, with the noted codes put in, it satisfies the rows. Assumes nothing.
 use Rattle.std.proofs.Common.{◌≡◌, ℕ, ◌%◌, ◌<◌, ◌≤◌, List, inl, inr, [], ◌∷◌, length, Some, None, Option, cond, sym, refl, ap, subst, ◌∙◌, arith, mod-eq_of_lt}
 use Rattle.std.specs.Option.{unwrap_or, is_none}
 use Rattle.std.proofs.Math.Path.{fun_ext}
@@ -17,7 +17,7 @@ use Rattle.notes.specs.Notes.{noted_code, put_in, noted_alone, open_terms, row_u
 use Rattle.notes.specs.Under.{row_under_at}
 
 module _ (F : Lawful) (codes : List (Option ℕ)) (x : ℕ → ℕ) where
-  -- one term parted_more, with its code if it is noted
+  -- one term more, with its code if it is noted
   parted_more : (code : Option ℕ) (t : Term) (us : List Term) (noted all : ℕ) → F.ops.plus (weighted F.ops us x) noted ≡ all → F.ops.plus (weighted F.ops (cond (is_none code) (t ∷ us) us) x) (F.ops.plus (F.ops.times t.weight (unwrap_or code 0)) noted) ≡ F.ops.plus (F.ops.times t.weight (unwrap_or code (x t.minute))) all
   unfolding weighted
   parted_more (Some k) t us noted all e = field.plus_left_comm F (weighted F.ops us x) (F.ops.times t.weight k) noted ∙ ap (F.ops.plus (F.ops.times t.weight k)) e
@@ -33,7 +33,7 @@ module _ (F : Lawful) (codes : List (Option ℕ)) (x : ℕ → ℕ) where
   parted [] = F.plus-zero 0 ∙ field.zero-mod-q F
   parted (t ∷ ts) = parted_more (noted_code codes t.minute) t (open_terms codes ts) (weighted F.ops ts (noted_alone codes)) (weighted F.ops ts (put_in codes x)) (parted ts)
 
-  -- what is take_back from a sum and added add_back, and the other way round
+  -- what is taken from a sum and added again, and the other way round
   add_back : (b w : ℕ) → F.ops.plus (F.ops.plus b (F.ops.negative w) % F.ops.q) w ≡ b % F.ops.q
   add_back b w = simp ring
 
