@@ -6,7 +6,7 @@ use rows::values::Choice;
 
 // Noted codes, one for a minute at most.
 #[derive(Clone, Copy)]
-pub struct Notes {
+pub(crate) struct Notes {
     codes: [Option<u16>; MOST_MINUTES],
     ghost room: { length codes ≡ 64 },
 }
@@ -17,7 +17,7 @@ impl Notes {
     ghost use Rattle.notes.specs.Notes.{noted_code, no_codes, noted_count};
 
     // Nothing is noted.
-    pub fn new() -> Notes
+    pub(crate) fn new() -> Notes
         ensures { result.codes ≡ no_codes }
     {
         Notes {
@@ -26,28 +26,28 @@ impl Notes {
     }
 
     // The code of a minute; none where none is noted.
-    pub fn code(&self, minute: usize) -> Option<u16>
+    pub(crate) fn code(&self, minute: usize) -> Option<u16>
         ensures { result ≡ noted_code self.now.codes minute }
     {
         self.codes.get(minute).copied().flatten()
     }
 
     // Whether a minute is not noted.
-    pub fn is_open(&self, minute: u16) -> bool
+    pub(crate) fn is_open(&self, minute: u16) -> bool
         ensures { result ≡ is_none (noted_code self.now.codes minute) }
     {
         self.code(usize::from(minute)).is_none()
     }
 
     // How many minutes are noted.
-    pub fn count(&self) -> usize
+    pub(crate) fn count(&self) -> usize
         ensures { result ≡ noted_count self.now.codes }
     {
         self.codes.iter().filter(|code| code.is_some()).count()
     }
 
     // Gives a minute its code.
-    pub fn set(&mut self, minute: usize, code: u16)
+    pub(crate) fn set(&mut self, minute: usize, code: u16)
         requires { minute < 64 }
         ensures { self.new.codes ≡ slice_set self.old.codes minute (Some code) }
     {
