@@ -67,7 +67,7 @@ impl<F: Field, R: Rows> Noted<F, R> {
         if !is_code::<F>(code) {
             return Err(Refusal::NoCode(0));
         }
-        if self.notes.code(minute).is_some() {
+        if self.notes.get(minute).is_some() {
             return Err(Refusal::MinuteNoted);
         }
         self.notes.set(minute, code);
@@ -87,7 +87,7 @@ impl<F: Field, R: Rows> Noted<F, R> {
         ensures code { result ≡ noted_code (codes_in self.now) minute }
         ensures fits { NotesFit F.ops (system_below self.now).width (codes_in self.now) }
     {
-        self.notes.code(minute)
+        self.notes.get(minute)
     }
 
     // How many minutes are noted.
@@ -105,7 +105,7 @@ impl<F: Field, R: Rows> Noted<F, R> {
         ensures law { (y : ℕ → ℕ) → SatisfiedUnder F.ops (codes_in self.now) (system_below self.now) y }
     {
         for (minute, place) in x.iter_mut().enumerate() {
-            if let Some(code) = self.notes.code(minute) {
+            if let Some(code) = self.notes.get(minute) {
                 *place = code;
             }
         }

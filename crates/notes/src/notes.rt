@@ -26,7 +26,7 @@ impl Notes {
     }
 
     // The code of a minute; none where none is noted.
-    pub(crate) fn code(&self, minute: usize) -> Option<u16>
+    pub(crate) fn get(&self, minute: usize) -> Option<u16>
         ensures { result ≡ noted_code self.now.codes minute }
     {
         self.codes.get(minute).copied().flatten()
@@ -36,7 +36,7 @@ impl Notes {
     pub(crate) fn is_open(&self, minute: u16) -> bool
         ensures { result ≡ is_none (noted_code self.now.codes minute) }
     {
-        self.code(usize::from(minute)).is_none()
+        self.get(usize::from(minute)).is_none()
     }
 
     // How many minutes are noted.
@@ -62,6 +62,6 @@ impl Choice for Notes {
     ghost codes = { λ notes. noted_alone notes.codes };
 
     fn code(&self, minute: u16) -> u16 {
-        self.code(usize::from(minute)).unwrap_or(0)
+        self.get(usize::from(minute)).unwrap_or(0)
     }
 }

@@ -20,7 +20,7 @@ pub fn entry<F: Field, R: Rows>(rows: &R, row: usize, minute: usize) -> Option<u
     Some(code_of::<F>(weight))
 }
 
-// A choice of minutes: a code for each.
+// A choice of minutes: a number for each, which is read as a code.
 pub trait Choice {
     ghost codes: { Self → ℕ → ℕ };
 
@@ -28,7 +28,7 @@ pub trait Choice {
         ensures { result ≡ codes self.now minute };
 }
 
-// The numbers of a slice; past its end a code is 0.
+// The numbers of a slice; past its end they are 0.
 impl Choice for &[u16] {
     ghost codes = { λ x. choice x.now };
 
@@ -37,7 +37,7 @@ impl Choice for &[u16] {
     }
 }
 
-// A row's sum less its weights times the codes that are chosen at their minutes; none where there is no such row. Each
+// A row's sum less its weights times the numbers that are chosen at their minutes; none where there is no such row. Each
 // term is read once.
 pub fn row_value<F: Field, R: Rows, X: Choice>(rows: &R, row: usize, x: &X) -> Option<u16>
     ensures value { result ≡ row_value_of F.Field.ops (R.Rows.system rows.now) row (X.Choice.codes x.now) }
