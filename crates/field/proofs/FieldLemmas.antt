@@ -205,6 +205,13 @@ module _ (F : Lawful) where
   pub difference_zero : (a b : ℕ) → F.ops.plus a (F.ops.negative b) ≡ 0 → a % F.ops.q ≡ b % F.ops.q
   difference_zero a b e = negative_unique (F.ops.negative b) a (F.plus_comm (F.ops.negative b) a ∙ e) ∙ negative-negative b
 
+  pub zero_difference : (a b : ℕ) → a % F.ops.q ≡ b % F.ops.q → F.ops.plus a (F.ops.negative b) ≡ 0
+  zero_difference a b e =
+      sym (plus_left a (F.ops.negative b))
+      ∙ ap (λ x. F.ops.plus x (F.ops.negative b)) e
+      ∙ plus_left b (F.ops.negative b)
+      ∙ F.plus-negative b
+
   pub consequences : Consequences F.ops
   consequences =
       record {

@@ -5,7 +5,7 @@ use Rattle.std.specs.Option.{unwrap_or}
 use Rattle.field.specs.Operations.{Operations, first_from, reciprocal, inverse}
 
 -- where a search ends with a number, that number passes, and is one of those searched
-found : (test : ℕ → Bool) (count from b : ℕ) → first_from test count from ≡ Some b → (test b ≡ true) × (b < from + count)
+pub found : (test : ℕ → Bool) (count from b : ℕ) → first_from test count from ≡ Some b → (test b ≡ true) × (b < from + count)
 unfolding first_from
 found test zero from b e = let z : ◌≡◌ {A = ℕ} 0 1 = cc in absurd (omega arith)
 found test (suc count) from b e =
@@ -17,7 +17,7 @@ found test (suc count) from b e =
     e
 
 -- where it ends with none, no number that was searched passes
-missed : (test : ℕ → Bool) (count from b : ℕ) → first_from test count from ≡ None → from ≤ b → b < from + count → test b ≢ true
+pub missed : (test : ℕ → Bool) (count from b : ℕ) → first_from test count from ≡ None → from ≤ b → b < from + count → test b ≢ true
 unfolding first_from
 missed test zero from b e l h p = omega arith
 missed test (suc count) from b e l h p =

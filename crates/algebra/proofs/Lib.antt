@@ -1,0 +1,10 @@
+pub mod Deltas
+pub mod Sums
+pub mod Products
+pub mod Growth
+pub mod Spans
+pub mod Pivots
+pub mod Elimination
+pub mod Exchange
+pub mod Profiles
+pub mod Counting

@@ -1,0 +1,17 @@
+-- From the laws of the bound. Assumes nothing.
+use Rattle.std.proofs.Common.{arith}
+use Rattle.algebra.proofs.Elimination.{Elimination-start, Elimination-stay, Elimination-grow, InSpan-of_pivots}
+use Rattle.algebra.proofs.Profiles.{pivot_rows-RankProfile}
+use Rattle.field.specs.LawsForAll.{lawful}
+use Rattle.algebra.proofs.theorems.eliminations_find_profiles.Goals as goal
+
+pub returns : goal.returns
+returns g c m A =
+    let F = lawful g.F.Field.ops g.met.F.Field.laws in
+    record {
+      start = Elimination-start F m A;
+      stay = Elimination-stay F m A;
+      grow = Elimination-grow F m A;
+      profile = λ i S E. pivot_rows-RankProfile F m i A S E;
+      spans = λ i S E. InSpan-of_pivots F m A i S E S.count i (omega arith) (omega arith) (λ k h _. h);
+    }

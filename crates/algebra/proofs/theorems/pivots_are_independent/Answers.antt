@@ -1,0 +1,17 @@
+-- From the laws of the bound. Assumes nothing.
+use Rattle.algebra.proofs.Pivots as pivots
+use Rattle.algebra.proofs.Profiles.{count-le_rank}
+use Rattle.field.specs.LawsForAll.{lawful}
+use Rattle.algebra.proofs.theorems.pivots_are_independent.Goals as goal
+
+pub returns : goal.returns
+returns g c n m A S I =
+    let F = lawful g.F.Field.ops g.met.F.Field.laws in
+    record {
+      independent = pivots.pivot_rows-Independent F n m A S I;
+      rows_differ = pivots.pivot_rows-injective F n m A S I;
+      columns_differ = pivots.pivot_columns-injective F n m A S I;
+      at_most_rows = pivots.count-le_rows F n m A S I;
+      at_most_columns = pivots.count-le_columns F n m A S I;
+      at_most_rank = count-le_rank F m n A S I;
+    }

@@ -1,0 +1,19 @@
+-- From the laws of the bound. Assumes nothing.
+use Rattle.algebra.specs.Vectors.{mul_vec}
+use Rattle.algebra.proofs.Sums.{place-elsewhere}
+use Rattle.algebra.proofs.Pivots as pivots
+use Rattle.field.specs.LawsForAll.{lawful}
+use Rattle.algebra.proofs.theorems.pivots_solve.Goals as goal
+
+pub returns : goal.returns
+returns g c n m A S I =
+    let F = lawful g.F.Field.ops g.met.F.Field.laws in
+    record {
+      solution_at = pivots.solution-at F n m A S I;
+      solution_elsewhere = λ b j none. place-elsewhere F S.count S.column (mul_vec F.ops S.count S.inverse (λ l. b (S.row l))) j none;
+      solution_solves = pivots.solution-Solves F n m A S I;
+      multipliers_columns = pivots.vec_mul-multipliers F n m A S I;
+      schur_at_pivots = pivots.schur-pivot_column F n m A S I;
+      multipliers_sums = pivots.dot-multipliers F n m A S I;
+      multipliers_own = pivots.multipliers-own F n m A S I;
+    }

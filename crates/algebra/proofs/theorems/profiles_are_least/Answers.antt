@@ -1,0 +1,14 @@
+-- From the laws of the bound. Assumes nothing.
+use Rattle.algebra.proofs.Profiles.{rank_profile-RankProfile, RankProfile-unique, RankProfile-iff_LeastLongest, RankProfile-length}
+use Rattle.field.specs.LawsForAll.{lawful}
+use Rattle.algebra.proofs.theorems.profiles_are_least.Goals as goal
+
+pub returns : goal.returns
+returns g c n m A =
+    let F = lawful g.F.Field.ops g.met.F.Field.laws in
+    record {
+      computed = rank_profile-RankProfile F m n A;
+      unique = RankProfile-unique F m n A;
+      least_longest = RankProfile-iff_LeastLongest F m n A;
+      rank_length = RankProfile-length F m n A;
+    }

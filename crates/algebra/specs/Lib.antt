@@ -1,0 +1,6 @@
+pub mod Vectors
+pub mod Spans
+pub mod Pivots
+pub mod Profiles
+pub mod Theorems
+pub mod Examples
