@@ -1,24 +1,25 @@
 -- Searches below a bound, and numbers that differ. Assumes nothing.
 use Rattle.std.proofs.Common.{◌≡◌, ℕ, zero, suc, ◌<◌, ◌≤◌, ◌≢◌, ◌⊎◌, sym, refl, ap, ◌∙◌, inl, inr, arith}
 use Rattle.std.proofs.lemmas.Bool.{cases_eq}
+use Rattle.algebra.specs.Places.{Below, Distinct, Among, Outside}
 use Rattle.algebra.specs.Vectors.{extend}
 use Rattle.algebra.proofs.Deltas.{extend-last, extend-other, extend-below, below-suc}
 
 -- f takes the value j below s, or does not
-pub found_or_not : (f : ℕ → ℕ) (j s : ℕ) → ((k : ℕ) × (k < s) × (f k ≡ j)) ⊎ ((k : ℕ) → k < s → f k ≢ j)
-found_or_not f j zero = inr (λ k h e. omega arith)
-found_or_not f j (suc s) =
+pub Among-or_Outside : (s : ℕ) (f : ℕ → ℕ) (j : ℕ) → Among s f j ⊎ Outside s f j
+Among-or_Outside zero f j = inr (λ k h e. omega arith)
+Among-or_Outside (suc s) f j =
     elim (cases_eq (f s) j) [
       | inl e ↦ inl (s, omega arith, e)
       | inr n ↦
-          elim (found_or_not f j s) [
+          elim (Among-or_Outside s f j) [
             | inl found ↦ inl (found.0, omega (arith, found.1), found.2)
             | inr none ↦ inr (below-suc (λ k. f k ≢ j) s none n)
           ]
     ]
 
 -- where f k is r, the last value in its place leaves different numbers below r
-module _ (r s : ℕ) (f : ℕ → ℕ) (below : (k : ℕ) → k < suc s → f k < suc r) (differ : (k l : ℕ) → k < suc s → l < suc s → f k ≡ f l → k ≡ l) (k : ℕ) (hk : k < suc s) (at : f k ≡ r) where
+module _ (r s : ℕ) (f : ℕ → ℕ) (below : Below (suc s) f (suc r)) (differ : Distinct (suc s) f) (k : ℕ) (hk : k < suc s) (at : f k ≡ r) where
   value : (l : ℕ) → ((l ≡ k) × (extend k f (f s) l ≡ f s)) ⊎ ((l ≢ k) × (extend k f (f s) l ≡ f l))
   value l =
       elim (cases_eq l k) [
@@ -39,8 +40,8 @@ module _ (r s : ℕ) (f : ℕ → ℕ) (below : (k : ℕ) → k < suc s → f k 
             omega (arith, v.1)
       ]
 
-  value-injective : (l h : ℕ) → l < s → h < s → extend k f (f s) l ≡ extend k f (f s) h → l ≡ h
-  value-injective l h hl hh e =
+  value-distinct : (l h : ℕ) → l < s → h < s → extend k f (f s) l ≡ extend k f (f s) h → l ≡ h
+  value-distinct l h hl hh e =
       elim (value l) [
         | inl v ↦
             elim (value h) [
@@ -55,23 +56,29 @@ module _ (r s : ℕ) (f : ℕ → ℕ) (below : (k : ℕ) → k < suc s → f k 
       ]
 
 -- different numbers below r are at most r
-pub le-of_injective : (r s : ℕ) (f : ℕ → ℕ) → ((k : ℕ) → k < s → f k < r) → ((k l : ℕ) → k < s → l < s → f k ≡ f l → k ≡ l) → s ≤ r
-le-of_injective zero zero f below differ = omega arith
-le-of_injective zero (suc s) f below differ = absurd (let h = below 0 (omega arith) in omega arith)
-le-of_injective (suc r) zero f below differ = omega arith
-le-of_injective (suc r) (suc s) f below differ =
-    elim (found_or_not f r (suc s)) [
+pub le-of_Distinct : (r s : ℕ) (f : ℕ → ℕ) → Below s f r → Distinct s f → s ≤ r
+le-of_Distinct zero zero f below differ = omega arith
+le-of_Distinct zero (suc s) f below differ = absurd (let h = below 0 (omega arith) in omega arith)
+le-of_Distinct (suc r) zero f below differ = omega arith
+le-of_Distinct (suc r) (suc s) f below differ =
+    elim (Among-or_Outside (suc s) f r) [
       | inr none ↦
-          let most : suc s ≤ r = le-of_injective r (suc s) f (λ k h. let b = below k h in let n = none k h in omega arith) differ in
+          let most : suc s ≤ r = le-of_Distinct r (suc s) f (λ k h. let b = below k h in let n = none k h in omega arith) differ in
           omega arith
       | inl found ↦
-          let most : s ≤ r = le-of_injective r s (extend found.0 f (f s)) (value-below r s f below differ found.0 found.1 found.2) (value-injective r s f below differ found.0 found.1 found.2) in
+          let most : s ≤ r = le-of_Distinct r s (extend found.0 f (f s)) (value-below r s f below differ found.0 found.1 found.2) (value-distinct r s f below differ found.0 found.1 found.2) in
           omega arith
     ]
 
--- one more number that differs from the others
-pub extend-injective : (r : ℕ) (f : ℕ → ℕ) (j : ℕ) → ((k l : ℕ) → k < r → l < r → f k ≡ f l → k ≡ l) → ((k : ℕ) → k < r → f k ≢ j) → (k l : ℕ) → k < suc r → l < suc r → extend r f j k ≡ extend r f j l → k ≡ l
-extend-injective r f j differ none k l hk hl e =
+-- one more number
+pub Below-extend : (s n : ℕ) (f : ℕ → ℕ) (j : ℕ) → Below s f n → j < n → Below (suc s) (extend s f j) n
+Below-extend s n f j below h =
+    below-suc (λ k. extend s f j k < n) s
+    (λ k hk. let b = below k hk in let e = extend-below s f j k hk in omega arith)
+    (let e = extend-last s f j in omega arith)
+
+pub Distinct-extend : (r : ℕ) (f : ℕ → ℕ) (j : ℕ) → Distinct r f → Outside r f j → Distinct (suc r) (extend r f j)
+Distinct-extend r f j differ none k l hk hl e =
     let g = extend r f j in
     let at = extend-below r f j in
     let last = extend-last r f j in
@@ -81,14 +88,11 @@ extend-injective r f j differ none k l hk hl e =
     k hk l hl e
 
 -- r different numbers below r are all of them
-pub found-of_injective : (r : ℕ) (f : ℕ → ℕ) → ((k : ℕ) → k < r → f k < r) → ((k l : ℕ) → k < r → l < r → f k ≡ f l → k ≡ l) → (j : ℕ) → j < r → (k : ℕ) × (k < r) × (f k ≡ j)
-found-of_injective r f below differ j h =
-    elim (found_or_not f j r) [
+pub Among-of_Distinct : (r : ℕ) (f : ℕ → ℕ) → Below r f r → Distinct r f → (j : ℕ) → j < r → Among r f j
+Among-of_Distinct r f below differ j h =
+    elim (Among-or_Outside r f j) [
       | inl found ↦ found
       | inr none ↦
-          let more : suc r ≤ r =
-          le-of_injective r (suc r) (extend r f j)
-          (below-suc (λ k. extend r f j k < r) r (λ k hk. let b = below k hk in let v = extend-below r f j k hk in omega arith) (let v = extend-last r f j in omega arith))
-          (extend-injective r f j differ none) in
+          let more : suc r ≤ r = le-of_Distinct r (suc r) (extend r f j) (Below-extend r r f j below h) (Distinct-extend r f j differ none) in
           absurd (omega arith)
     ]

@@ -18,6 +18,13 @@ pub δ-comm : (k l : ℕ) → δ k l ≡ δ l k
       | inr h ↦ δ-ne k l h ∙ sym (δ-ne l k (λ e. h (sym e)))
     ]
 
+pub eq-of_δ : (k l : ℕ) → δ k l ≡ 1 → k ≡ l
+eq-of_δ k l e =
+    elim (cases_eq k l) [
+      | inl same ↦ same
+      | inr n ↦ let none = δ-ne k l n in absurd (omega arith)
+    ]
+
 module _ {X : Type 0} (s : ℕ) (f : ℕ → X) (y : X) where
   pub extend-last : extend s f y s ≡ y
   extend-last = rw (eq-eqb s s refl)

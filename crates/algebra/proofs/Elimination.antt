@@ -3,6 +3,7 @@ use Rattle.std.proofs.Common.{◌≡◌, ℕ, zero, suc, ◌<◌, ◌≤◌, ◌
 use Rattle.std.proofs.lemmas.Bool.{cases_eq, cases_lt, eq-eqb, ne_eqb, true≢false}
 use Rattle.field.specs.Reciprocals.{found, missed}
 use Rattle.field.specs.Laws.{Lawful}
+use Rattle.algebra.specs.Places.{Among}
 use Rattle.algebra.specs.Vectors.{rows_at, extend}
 use Rattle.algebra.specs.Spans.{InSpan}
 use Rattle.algebra.specs.Pivots.{Pivots, PivotsOf, no_pivots, schur, grow}
@@ -25,7 +26,7 @@ module _ (F : Lawful) (m : ℕ) (A : ℕ → ℕ → ℕ) where
         record {
           pivots = more_rows;
           rising = E.rising;
-          others = below-suc (λ r. ((k : ℕ) × (k < S.count) × (S.row k ≡ r)) ⊎ InSpan F.ops m r A (A r)) i E.others (inr (InSpan-of_rows_at F m S.count i S.row A (A i) E.pivots.rows_below (InSpan-of_schur F i m A S E.pivots i stale)));
+          others = below-suc (λ r. Among S.count S.row r ⊎ InSpan F.ops m r A (A r)) i E.others (inr (InSpan-of_rows_at F m S.count i S.row A (A i) E.pivots.rows_below (InSpan-of_schur F i m A S E.pivots i stale)));
         }
 
     pub Elimination-grow : (j : ℕ) → j < m → schur F.ops A S i j ≢ 0 → Elimination F.ops m A (suc i) (grow F.ops A S i j)
@@ -39,7 +40,7 @@ module _ (F : Lawful) (m : ℕ) (A : ℕ → ℕ → ℕ) where
               (λ l hl less. let r = E.rising k l less hl in let e = row k (omega arith) in let e' = row l hl in omega arith)
               (λ less. let b = E.pivots.rows_below k less in let e = row k less in omega arith)
               l hl less;
-          others = below-suc (λ r. ((k : ℕ) × (k < suc S.count) × (extend S.count S.row i k ≡ r)) ⊎ InSpan F.ops m r A (A r)) i
+          others = below-suc (λ r. Among (suc S.count) (extend S.count S.row i) r ⊎ InSpan F.ops m r A (A r)) i
               (λ r hr. elim (E.others r hr) [
                 | inl pivot ↦ inl (pivot.0, omega (arith, pivot.1), row pivot.0 pivot.1 ∙ pivot.2)
                 | inr is ↦ inr is
@@ -66,6 +67,9 @@ module _ (F : Lawful) (m : ℕ) (A : ℕ → ℕ → ℕ) where
                     | inr is ↦ InSpan-trans F m u t A (rows_at A S.row) (A u) is (λ k hk. spanned u k hk (omega arith))
                   ])
             ]
+
+    pub InSpan-of_all_pivots : (r : ℕ) → r < i → InSpan F.ops m S.count (rows_at A S.row) (A r)
+    InSpan-of_all_pivots = InSpan-of_pivots S.count i (omega arith) (omega arith) (λ k h _. h)
 
     pub index-lt_of_row : (k l : ℕ) → k < S.count → l < S.count → S.row l < S.row k → l < k
     index-lt_of_row k l hk hl less =

@@ -6,6 +6,7 @@ use Rattle.field.proofs.FieldLemmas.{ring, plus-mod}
 use Rattle.algebra.specs.Vectors.{δ, dot, mul_vec, vec_mul, mat_mul, submatrix, extend, bordered, IsIdentity, Inverse}
 use Rattle.algebra.specs.Pivots.{Pivots, PivotsOf, Inverts, no_pivots, schur, grown, grow}
 use Rattle.algebra.proofs.Deltas.{δ-self, δ-ne, δ-comm, extend-last, extend-below, below-suc}
+use Rattle.algebra.proofs.Counting.{Below-extend}
 use Rattle.algebra.proofs.Sums.{Σ-mod}
 use Rattle.algebra.proofs.Products.{dot_comm, dot-linear, dot-scaled, dot-mul_vec, dot-suc, vec_mul-vec_mul_inverse, mul_vec-mul_vec_inverse}
 
@@ -163,7 +164,7 @@ module _ (F : Lawful) (n m : ℕ) (A : ℕ → ℕ → ℕ) where
   pub grow-PivotsOf : (S : Pivots) (i j : ℕ) → PivotsOf F.ops n m A S → i < n → j < m → schur F.ops A S i j ≢ 0 → PivotsOf F.ops n m A (grow F.ops A S i j)
   grow-PivotsOf S i j I hi hj some =
       record {
-        rows_below = below-suc (λ k. extend S.count S.row i k < n) S.count (λ k h. let b = I.rows_below k h in let e = extend-below S.count S.row i k h in omega arith) (let e = extend-last S.count S.row i in omega arith);
-        columns_below = below-suc (λ k. extend S.count S.column j k < m) S.count (λ k h. let b = I.columns_below k h in let e = extend-below S.count S.column j k h in omega arith) (let e = extend-last S.count S.column j in omega arith);
+        rows_below = Below-extend S.count n S.row i I.rows_below hi;
+        columns_below = Below-extend S.count m S.column j I.columns_below hj;
         inverts = grow-Inverts F A S i j I.inverts some;
       }

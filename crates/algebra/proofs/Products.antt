@@ -3,7 +3,8 @@ use Rattle.std.proofs.Common.{◌≡◌, ℕ, suc, ◌%◌, ◌<◌, sym, ap, �
 use Rattle.field.specs.Laws.{Lawful}
 use Rattle.field.specs.Sums.{Σ}
 use Rattle.field.proofs.FieldLemmas.{ring, times_left, times_zero_read, zero-mod-q, plus-mod}
-use Rattle.algebra.specs.Vectors.{δ, dot, place, mul_vec, vec_mul, mat_mul, IsIdentity}
+use Rattle.algebra.specs.Places.{Below}
+use Rattle.algebra.specs.Vectors.{δ, dot, place, unit_minus, mul_vec, vec_mul, mat_mul, IsIdentity}
 use Rattle.algebra.proofs.Deltas.{δ-comm}
 use Rattle.algebra.proofs.Sums.{Σ-suc, Σ-congr, Σ-plus, Σ-times, times-Σ, Σ-comm, Σ-δ, Σ-of_zero, Σ-place}
 
@@ -87,9 +88,9 @@ module _ (F : Lawful) where
   dot-of_zero n x y none = Σ-of_zero F n (λ k. x k ⊗ y k) (λ k h. ap (λ z. z % q) (times_zero_read F (x k) (y k) (none k h)) ∙ zero-mod-q F)
 
   -- 1 at i less what is placed at P
-  pub dot-unit_minus : (n s i : ℕ) (P y f : ℕ → ℕ) → i < n → ((k : ℕ) → k < s → P k < n) → dot F.ops n (λ r. δ i r ⊕ negative (place F.ops s P y r)) f ≡ f i ⊕ negative (dot F.ops s y (λ k. f (P k)))
-  dot-unit_minus n s i P y f h below =
-      dot-linear n (negative 1) (λ r. δ i r ⊕ negative (place F.ops s P y r)) (δ i) (place F.ops s P y) f (λ r _. simp ring)
+  pub dot-unit_minus : (n i s : ℕ) (P y f : ℕ → ℕ) → i < n → Below s P n → dot F.ops n (unit_minus F.ops i s P y) f ≡ f i ⊕ negative (dot F.ops s y (λ k. f (P k)))
+  dot-unit_minus n i s P y f h below =
+      dot-linear n (negative 1) (unit_minus F.ops i s P y) (δ i) (place F.ops s P y) f (λ r _. simp ring)
       ∙ ap (λ x. x ⊕ negative 1 ⊗ dot F.ops n (place F.ops s P y) f) (dot_comm n (δ i) f ∙ Σ-δ F n i f h)
       ∙ ap (λ x. f i % q ⊕ negative 1 ⊗ x) (Σ-place F n s P y f below)
       ∙ (simp ring)

@@ -11,15 +11,15 @@ use Rattle.std.proofs.lemmas.List.FromFn.{length-map-range_with_len, get_or-map-
 use Rattle.std.proofs.lemmas.Map.Keys.{sorted_from_strictly_increasing, below_from_sorted}
 use Rattle.std.proofs.lemmas.Grind.{same_number_lists}
 use Rattle.field.specs.Laws.{Lawful}
-use Rattle.algebra.specs.Vectors.{rows_at}
+use Rattle.algebra.specs.Vectors.{vec_mul, rows_at}
 use Rattle.algebra.specs.Spans.{InSpan, Independent}
 use Rattle.algebra.specs.Pivots.{Pivots, PivotsOf}
 use Rattle.algebra.specs.Profiles.{InProfile, RankProfile, IndependentRows, LeastLongest, Elimination, eliminate, pivot_rows, rank_profile, rank}
 use Rattle.algebra.proofs.Sums.{Σ-congr}
 use Rattle.algebra.proofs.Spans.{not_InSpan-of_Independent}
-use Rattle.algebra.proofs.Pivots.{pivot_rows-Independent}
+use Rattle.algebra.proofs.Pivots.{pivot_rows-Independent, count-le_rows, count-le_columns}
 use Rattle.algebra.proofs.Exchange.{le-of_Independent}
-use Rattle.algebra.proofs.Elimination.{InSpan-of_pivots, InProfile-of_pivot, index-lt_of_row, eliminate-Elimination}
+use Rattle.algebra.proofs.Elimination.{InSpan-of_pivots, InSpan-of_all_pivots, InProfile-of_pivot, index-lt_of_row, eliminate-Elimination}
 
 -- a list that is never above at the first difference is not greater
 not_Greater : (xs ys : List ℕ) → length ys ≡ length xs → ((k : ℕ) → k < length xs → ((j : ℕ) → j < k → slice_index xs j ≡ slice_index ys j) → slice_index xs k ≤ slice_index ys k) → slice_cmp nat_cmp xs ys ≢ Greater
@@ -99,13 +99,16 @@ same-of_rising xs ys xs-rises ys-rises into back = same_number_lists xs ys long 
 
 module _ (F : Lawful) (m : ℕ) where
   -- equal rows
+  vec_mul-congr : (s : ℕ) (c : ℕ → ℕ) (R Q : ℕ → ℕ → ℕ) → ((k : ℕ) → k < s → (j : ℕ) → R k j ≡ Q k j) → (j : ℕ) → vec_mul F.ops s c R j ≡ vec_mul F.ops s c Q j
+  vec_mul-congr s c R Q same j = Σ-congr F s (λ k. F.ops.times (c k) (R k j)) (λ k. F.ops.times (c k) (Q k j)) (λ k h. ap (F.ops.times (c k)) (same k h j))
+
   Independent-congr : (s t : ℕ) (R Q : ℕ → ℕ → ℕ) → s ≡ t → ((k : ℕ) → k < s → (j : ℕ) → R k j ≡ Q k j) → Independent F.ops m s R → Independent F.ops m t Q
   Independent-congr s t R Q e same independent =
-      subst (λ t. Independent F.ops m t Q) e
-      (λ c none. independent c (λ j h. Σ-congr F s (λ k. F.ops.times (c k) (R k j)) (λ k. F.ops.times (c k) (Q k j)) (λ k hk. ap (F.ops.times (c k)) (same k hk j)) ∙ none j h))
+      subst (λ t. Independent F.ops m t Q) e (λ c none. independent c (λ j h. vec_mul-congr s c R Q same j ∙ none j h))
 
-  InSpan-congr : (s : ℕ) (R Q : ℕ → ℕ → ℕ) (x : ℕ → ℕ) → ((k : ℕ) → k < s → (j : ℕ) → R k j ≡ Q k j) → InSpan F.ops m s R x → InSpan F.ops m s Q x
-  InSpan-congr s R Q x same is = (is.0, λ j h. is.1 j h ∙ Σ-congr F s (λ k. F.ops.times (is.0 k) (R k j)) (λ k. F.ops.times (is.0 k) (Q k j)) (λ k hk. ap (F.ops.times (is.0 k)) (same k hk j)))
+  InSpan-congr : (s t : ℕ) (R Q : ℕ → ℕ → ℕ) (x : ℕ → ℕ) → s ≡ t → ((k : ℕ) → k < s → (j : ℕ) → R k j ≡ Q k j) → InSpan F.ops m s R x → InSpan F.ops m t Q x
+  InSpan-congr s t R Q x e same is =
+      subst (λ t. InSpan F.ops m t Q x) e (is.0, λ j h. is.1 j h ∙ vec_mul-congr s is.0 R Q same j)
 
   module _ (n : ℕ) (A : ℕ → ℕ → ℕ) where
     module _ (S : Pivots) (E : Elimination F.ops m A n S) where
@@ -146,7 +149,7 @@ module _ (F : Lawful) (m : ℕ) where
       module _ (ys : List ℕ) (I : IndependentRows F.ops n m A ys) where
         most : length ys ≤ S.count
         most = le-of_Independent F m (length ys) S.count (rows_at A S.row) (rows_at A (slice_index ys)) I.independent
-            (λ k h. InSpan-of_pivots F m A n S E S.count n (omega arith) (omega arith) (λ l hl _. hl) (slice_index ys k) (I.below k 0 h))
+            (λ k h. InSpan-of_all_pivots F m A n S E (slice_index ys k) (I.below k 0 h))
 
         least : length ys ≡ length (pivot_rows S) → slice_cmp nat_cmp (pivot_rows S) ys ≢ Greater
         least e =
@@ -159,7 +162,7 @@ module _ (F : Lawful) (m : ℕ) where
               | inl less ↦
                   absurd
                   (not_InSpan-of_Independent F m (length ys) k (rows_at A (slice_index ys)) I.independent (omega arith)
-                  (InSpan-congr k (rows_at A S.row) (rows_at A (slice_index ys)) (A (slice_index ys k))
+                  (InSpan-congr k k (rows_at A S.row) (rows_at A (slice_index ys)) (A (slice_index ys k)) refl
                   (λ j hj c. ap (λ r. A r c) (sym (at j 0 (omega arith)) ∙ agree j hj))
                   (InSpan-of_pivots F m A n S E k (S.row k) (omega arith) (let b = E.pivots.rows_below k (omega arith) in omega arith)
                   (λ i hi less. index-lt_of_row F m A n S E k i (omega arith) hi less) (slice_index ys k) less)))
@@ -200,10 +203,23 @@ module _ (F : Lawful) (m : ℕ) where
         let T = eliminate F.ops m A n in
         let E = eliminate-Elimination F m A n in
         le-of_Independent F m S.count T.count (rows_at A T.row) (rows_at A S.row) (pivot_rows-Independent F n m A S I)
-        (λ k h. InSpan-of_pivots F m A n T E T.count n (omega arith) (omega arith) (λ l hl _. hl) (S.row k) (I.rows_below k h))
+        (λ k h. InSpan-of_all_pivots F m A n T E (S.row k) (I.rows_below k h))
 
     pub rank_profile-RankProfile : RankProfile F.ops n m A (rank_profile F.ops n m A)
     rank_profile-RankProfile = pivot_rows-RankProfile (eliminate F.ops m A n) (eliminate-Elimination F m A n)
 
     pub RankProfile-length : (xs : List ℕ) → RankProfile F.ops n m A xs → length xs ≡ rank F.ops n m A
     RankProfile-length xs X = ap length (RankProfile-unique xs (rank_profile F.ops n m A) X rank_profile-RankProfile) ∙ long (eliminate F.ops m A n) (eliminate-Elimination F m A n)
+
+    pub RankProfile-spans : (xs : List ℕ) → RankProfile F.ops n m A xs → (r : ℕ) → r < n → InSpan F.ops m (length xs) (rows_at A (slice_index xs)) (A r)
+    RankProfile-spans xs X r h =
+        let S = eliminate F.ops m A n in
+        let E = eliminate-Elimination F m A n in
+        subst (λ xs. InSpan F.ops m (length xs) (rows_at A (slice_index xs)) (A r)) (RankProfile-unique (pivot_rows S) xs rank_profile-RankProfile X)
+        (InSpan-congr S.count (length (pivot_rows S)) (rows_at A S.row) (rows_at A (slice_index (pivot_rows S))) (A r) (sym (long S E)) (λ k hk j. ap (λ r. A r j) (sym (at S E k 0 hk))) (InSpan-of_all_pivots F m A n S E r h))
+
+    pub rank-le_rows : rank F.ops n m A ≤ n
+    rank-le_rows = count-le_rows F n m A (eliminate F.ops m A n) (eliminate-Elimination F m A n).pivots
+
+    pub rank-le_columns : rank F.ops n m A ≤ m
+    rank-le_columns = count-le_columns F n m A (eliminate F.ops m A n) (eliminate-Elimination F m A n).pivots

@@ -2,11 +2,11 @@
 use Rattle.std.proofs.Common.{◌≡◌, ℕ, ◌%◌, ◌<◌, sym, ap, ◌∙◌, inl, inr, arith}
 use Rattle.std.proofs.lemmas.Bool.{cases_lt}
 use Rattle.field.specs.Laws.{Lawful}
-use Rattle.field.proofs.FieldLemmas.{ring, times_right, zero_difference}
-use Rattle.algebra.specs.Vectors.{δ, mul_vec, vec_mul, rows_at, place}
+use Rattle.field.proofs.FieldLemmas.{one-mod-q, times_right, zero_difference}
+use Rattle.algebra.specs.Places.{Below}
+use Rattle.algebra.specs.Vectors.{δ, mul_vec, vec_mul, rows_at, unit_minus}
 use Rattle.algebra.specs.Spans.{Combination, InSpan, Independent}
-use Rattle.algebra.proofs.Deltas.{δ-self}
-use Rattle.algebra.proofs.Sums.{Σ-congr, Σ-mod, Σ-δ, place-elsewhere}
+use Rattle.algebra.proofs.Sums.{Σ-congr, Σ-mod, Σ-δ, unit_minus-own}
 use Rattle.algebra.proofs.Products.{dot_comm, dot-mul_vec, dot-unit_minus}
 
 module _ (F : Lawful) (m : ℕ) where
@@ -39,14 +39,14 @@ module _ (F : Lawful) (m : ℕ) where
       )
 
   -- rows among the first n of A span no more than these
-  pub InSpan-of_rows_at : (s n : ℕ) (P : ℕ → ℕ) (A : ℕ → ℕ → ℕ) (x : ℕ → ℕ) → ((k : ℕ) → k < s → P k < n) → InSpan F.ops m s (rows_at A P) x → InSpan F.ops m n A x
+  pub InSpan-of_rows_at : (s n : ℕ) (P : ℕ → ℕ) (A : ℕ → ℕ → ℕ) (x : ℕ → ℕ) → Below s P n → InSpan F.ops m s (rows_at A P) x → InSpan F.ops m n A x
   InSpan-of_rows_at s n P A x below is = InSpan-trans s n (rows_at A P) A x is (λ k h. InSpan-self n (P k) A (below k h))
 
   -- of independent rows none is a combination of those before it
   pub not_InSpan-of_Independent : (s k : ℕ) (R : ℕ → ℕ → ℕ) → Independent F.ops m s R → k < s → InSpan F.ops m k R (R k) → ⊥
   not_InSpan-of_Independent s k R independent h is =
       let own = λ (r : ℕ). r in
-      let u = λ (r : ℕ). δ k r ⊕ negative (place F.ops k own is.0 r) in
+      let u = unit_minus F.ops k k own is.0 in
       let none = independent u (λ j hj. dot-unit_minus F s k k own is.0 (λ r. R r j) h (λ r below. omega arith) ∙ zero_difference F (R k j) (vec_mul F.ops k is.0 R j) (is.1 j hj ∙ sym (Σ-mod F k (λ r. is.0 r ⊗ R r j)))) k h in
-      let one : u k % q ≡ 1 = ap (λ x. (x ⊕ negative (place F.ops k own is.0 k)) % q) (δ-self k) ∙ ap (λ x. (1 ⊕ negative x) % q) (place-elsewhere F k own is.0 k (λ r below. omega arith)) ∙ (simp ring) in
+      let one : u k % q ≡ 1 = ap (λ x. x % q) (unit_minus-own F k k own is.0 (λ r below. omega arith)) ∙ one-mod-q F in
       omega arith

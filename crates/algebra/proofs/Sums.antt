@@ -4,7 +4,8 @@ use Rattle.std.proofs.lemmas.Bool.{cases_eq}
 use Rattle.field.specs.Laws.{Lawful}
 use Rattle.field.specs.Sums.{Σ}
 use Rattle.field.proofs.FieldLemmas.{ring, plus_right, times_right, times-zero, zero-mod-q}
-use Rattle.algebra.specs.Vectors.{δ, place}
+use Rattle.algebra.specs.Places.{Below, Distinct, Outside}
+use Rattle.algebra.specs.Vectors.{δ, place, unit_minus}
 use Rattle.algebra.proofs.Deltas.{δ-self, δ-ne}
 
 module _ (F : Lawful) where
@@ -92,7 +93,7 @@ module _ (F : Lawful) where
       ])
 
   -- a sum over placed values is a sum over the places
-  pub Σ-place : (n s : ℕ) (Q y f : ℕ → ℕ) → ((k : ℕ) → k < s → Q k < n) → Σ F.ops n (λ j. place F.ops s Q y j ⊗ f j) ≡ Σ F.ops s (λ k. y k ⊗ f (Q k))
+  pub Σ-place : (n s : ℕ) (Q y f : ℕ → ℕ) → Below s Q n → Σ F.ops n (λ j. place F.ops s Q y j ⊗ f j) ≡ Σ F.ops s (λ k. y k ⊗ f (Q k))
   Σ-place n s Q y f below =
       Σ-congr n (λ j. place F.ops s Q y j ⊗ f j) (λ j. Σ F.ops s (λ k. y k ⊗ δ (Q k) j ⊗ f j)) (λ j h. Σ-times s (f j) (λ k. y k ⊗ δ (Q k) j))
       ∙ Σ-comm n s (λ j k. y k ⊗ δ (Q k) j ⊗ f j)
@@ -104,7 +105,7 @@ module _ (F : Lawful) where
       ∙ times_right F (y k) (f (Q k)))
 
   -- what is placed stands at its place, where the places differ
-  pub place-at : (s : ℕ) (Q y : ℕ → ℕ) → ((k l : ℕ) → k < s → l < s → Q k ≡ Q l → k ≡ l) → (k : ℕ) → k < s → place F.ops s Q y (Q k) ≡ y k % q
+  pub place-at : (s : ℕ) (Q y : ℕ → ℕ) → Distinct s Q → (k : ℕ) → k < s → place F.ops s Q y (Q k) ≡ y k % q
   place-at s Q y differ k h =
       Σ-congr s (λ l. y l ⊗ δ (Q l) (Q k)) (λ l. y l ⊗ δ k l)
       (λ l hl. ap (λ x. y l ⊗ x) (elim (cases_eq k l) [
@@ -114,5 +115,15 @@ module _ (F : Lawful) where
       ∙ Σ-δ s k y h
 
   -- and 0 elsewhere
-  pub place-elsewhere : (s : ℕ) (Q y : ℕ → ℕ) (j : ℕ) → ((k : ℕ) → k < s → Q k ≢ j) → place F.ops s Q y j ≡ 0
+  pub place-elsewhere : (s : ℕ) (Q y : ℕ → ℕ) (j : ℕ) → Outside s Q j → place F.ops s Q y j ≡ 0
   place-elsewhere s Q y j none = Σ-of_zero s (λ l. y l ⊗ δ (Q l) j) (λ l h. ap (λ x. (y l ⊗ x) % q) (δ-ne (Q l) j (none l h)) ∙ ap (λ x. x % q) (times-zero F (y l)) ∙ zero-mod-q F)
+
+  -- 1 at a place less what is placed at others
+  pub unit_minus-own : (i s : ℕ) (Q y : ℕ → ℕ) → Outside s Q i → unit_minus F.ops i s Q y i ≡ 1
+  unit_minus-own i s Q y none = ap (λ x. x ⊕ negative (place F.ops s Q y i)) (δ-self i) ∙ ap (λ x. 1 ⊕ negative x) (place-elsewhere s Q y i none) ∙ (simp ring)
+
+  pub unit_minus-at : (i s : ℕ) (Q y : ℕ → ℕ) → Distinct s Q → Outside s Q i → (k : ℕ) → k < s → unit_minus F.ops i s Q y (Q k) ≡ negative (y k)
+  unit_minus-at i s Q y differ none k h = ap (λ x. x ⊕ negative (place F.ops s Q y (Q k))) (δ-ne i (Q k) (λ e. none k h (sym e))) ∙ ap (λ x. 0 ⊕ negative x) (place-at s Q y differ k h) ∙ (simp ring)
+
+  pub unit_minus-elsewhere : (i s : ℕ) (Q y : ℕ → ℕ) (j : ℕ) → i ≢ j → Outside s Q j → unit_minus F.ops i s Q y j ≡ 0
+  unit_minus-elsewhere i s Q y j other none = ap (λ x. x ⊕ negative (place F.ops s Q y j)) (δ-ne i j other) ∙ ap (λ x. 0 ⊕ negative x) (place-elsewhere s Q y j none) ∙ (simp ring)

@@ -1,7 +1,8 @@
 -- Pivots of a matrix: rows and columns where it has an inverse, what they solve, and how they grow. Assumes nothing.
-use Rattle.std.specs.Prelude.{ℕ, suc, ◌<◌}
+use Rattle.std.specs.Prelude.{ℕ, suc}
 use Rattle.field.specs.Operations.{Operations, inverse}
-use Rattle.algebra.specs.Vectors.{δ, dot, mul_vec, vec_mul, submatrix, place, extend, bordered, Inverse}
+use Rattle.algebra.specs.Places.{Below}
+use Rattle.algebra.specs.Vectors.{dot, mul_vec, vec_mul, submatrix, place, unit_minus, extend, bordered, Inverse}
 
 -- as many rows as columns, and a matrix of that size; each may be anything past the count
 pub record Pivots : Type 0 where
@@ -16,8 +17,8 @@ Inverts K A S = Inverse K S.count (submatrix A S.row S.column) S.inverse
 
 -- pivots of an n × m matrix
 pub record PivotsOf (K : Operations) (n m : ℕ) (A : ℕ → ℕ → ℕ) (S : Pivots) : Type 0 where
-  pub rows_below : (k : ℕ) → k < S.count → S.row k < n
-  pub columns_below : (k : ℕ) → k < S.count → S.column k < m
+  pub rows_below : Below S.count S.row n
+  pub columns_below : Below S.count S.column m
   pub inverts : Inverts K A S
 
 -- vB, where v is row i at the pivot columns: the combination of the pivot rows that agrees with row i there
@@ -58,8 +59,8 @@ solution K b S = place K S.count S.column (mul_vec K S.count S.inverse (λ l. b 
 
 -- 1 at row i, −vB at the pivot rows, and 0 elsewhere
 abbrev pub multipliers : Operations → (ℕ → ℕ → ℕ) → Pivots → ℕ → ℕ → ℕ
-multipliers K A S i r = K.plus (δ i r) (K.negative (place K S.count S.row (row_coefficients K A S i) r))
+multipliers K A S i = unit_minus K i S.count S.row (row_coefficients K A S i)
 
 -- 1 at column j, −Ba at the pivot columns, and 0 elsewhere
 abbrev pub kernel_vector : Operations → (ℕ → ℕ → ℕ) → Pivots → ℕ → ℕ → ℕ
-kernel_vector K A S j c = K.plus (δ j c) (K.negative (place K S.count S.column (column_coefficients K A S j) c))
+kernel_vector K A S j = unit_minus K j S.count S.column (column_coefficients K A S j)

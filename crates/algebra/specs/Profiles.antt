@@ -6,6 +6,7 @@ use Rattle.std.specs.Ordering.{nat_cmp}
 use Rattle.std.specs.declared.cmp.Ordering.TheVariants.{Greater}
 use Rattle.std.specs.Cmp.Lexicographic.{slice_cmp}
 use Rattle.field.specs.Operations.{Operations, first_from}
+use Rattle.algebra.specs.Places.{Among}
 use Rattle.algebra.specs.Vectors.{rows_at}
 use Rattle.algebra.specs.Spans.{InSpan, Independent}
 use Rattle.algebra.specs.Pivots.{Pivots, PivotsOf, no_pivots, schur, grow}
@@ -47,7 +48,7 @@ eliminate K m A (suc i) = with_row K m A (eliminate K m A i) i
 pub record Elimination (K : Operations) (m : ℕ) (A : ℕ → ℕ → ℕ) (i : ℕ) (S : Pivots) : Type 0 where
   pub pivots : PivotsOf K i m A S
   pub rising : (k l : ℕ) → k < l → l < S.count → S.row k < S.row l
-  pub others : (r : ℕ) → r < i → ((k : ℕ) × (k < S.count) × (S.row k ≡ r)) ⊎ InSpan K m r A (A r)
+  pub others : (r : ℕ) → r < i → Among S.count S.row r ⊎ InSpan K m r A (A r)
 
 -- the pivot rows as a list
 abbrev pub pivot_rows : Pivots → List ℕ

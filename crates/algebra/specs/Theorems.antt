@@ -1,11 +1,12 @@
 -- The theorems of linear algebra that hold over every field, as statements. Assumes nothing.
-use Rattle.std.specs.Prelude.{◌≡◌, ◌≢◌, ℕ, suc, ◌%◌, ◌<◌, ◌≤◌, ◌↔◌, List, length}
+use Rattle.std.specs.Prelude.{◌≡◌, ◌≢◌, ℕ, suc, ◌%◌, ◌<◌, ◌≤◌, ◌↔◌, List, length, slice_index}
 use Rattle.field.specs.Operations.{Operations}
 use Rattle.field.specs.Sums.{Σ}
+use Rattle.algebra.specs.Places.{Distinct, Outside}
 use Rattle.algebra.specs.Vectors.{δ, dot, mul_vec, vec_mul, rows_at}
 use Rattle.algebra.specs.Spans.{InSpan, Independent, Solves, SolvesAll}
-use Rattle.algebra.specs.Pivots.{Pivots, PivotsOf, no_pivots, grow, schur, column_coefficients, solution, multipliers, kernel_vector}
-use Rattle.algebra.specs.Profiles.{RankProfile, LeastLongest, Elimination, pivot_rows, rank_profile, rank}
+use Rattle.algebra.specs.Pivots.{Pivots, PivotsOf, no_pivots, grow, schur, row_coefficients, column_coefficients, solution, multipliers, kernel_vector}
+use Rattle.algebra.specs.Profiles.{RankProfile, LeastLongest, Elimination, eliminate, pivot_rows, rank_profile, rank}
 
 -- sums are linear, change places, and count their summands by the remainders
 pub record SumLaws (K : Operations) : Type 0 where
@@ -40,15 +41,17 @@ pub record GrowthLaws (K : Operations) (n m : ℕ) (A : ℕ → ℕ → ℕ) : T
 pub record SolutionLaws (K : Operations) (n m : ℕ) (A : ℕ → ℕ → ℕ) (S : Pivots) : Type 0 where
   -- x has B times the sums at the pivot columns and 0 elsewhere, and satisfies the pivot rows
   pub solution_at : (b : ℕ → ℕ) (k : ℕ) → k < S.count → solution K b S (S.column k) ≡ mul_vec K S.count S.inverse (λ l. b (S.row l)) k
-  pub solution_elsewhere : (b : ℕ → ℕ) (j : ℕ) → ((k : ℕ) → k < S.count → S.column k ≢ j) → solution K b S j ≡ 0
+  pub solution_elsewhere : (b : ℕ → ℕ) (j : ℕ) → Outside S.count S.column j → solution K b S j ≡ 0
   pub solution_solves : (b : ℕ → ℕ) (k : ℕ) → k < S.count → Solves K m A b (solution K b S) (S.row k)
   -- uA is the Schur complement at every column, and 0 at the pivot columns
   pub multipliers_columns : (i j : ℕ) → i < n → vec_mul K n (multipliers K A S i) A j ≡ schur K A S i j
   pub schur_at_pivots : (i k : ℕ) → k < S.count → schur K A S i (S.column k) ≡ 0
   -- u · b is what x leaves of row i
   pub multipliers_sums : (b : ℕ → ℕ) (i : ℕ) → i < n → dot K n (multipliers K A S i) b ≡ K.plus (b i) (K.negative (mul_vec K m A (solution K b S) i))
-  -- for a row that is no pivot row, u is 1 there
-  pub multipliers_own : (i : ℕ) → ((k : ℕ) → k < S.count → S.row k ≢ i) → multipliers K A S i i ≡ 1
+  -- for a row i that is no pivot row, u is 1 there, −vB at the pivot rows and 0 elsewhere
+  pub multipliers_own : (i : ℕ) → Outside S.count S.row i → multipliers K A S i i ≡ 1
+  pub multipliers_at_pivots : (i : ℕ) → Outside S.count S.row i → (k : ℕ) → k < S.count → multipliers K A S i (S.row k) ≡ K.negative (row_coefficients K A S i k)
+  pub multipliers_elsewhere : (i r : ℕ) → i ≢ r → Outside S.count S.row r → multipliers K A S i r ≡ 0
 
 -- a combination of rows that is 0 but whose sum is not: nothing satisfies all rows
 abbrev pub NoSolution : Operations → Type 0
@@ -57,22 +60,22 @@ NoSolution K = (n m : ℕ) (A : ℕ → ℕ → ℕ) (b u : ℕ → ℕ) → ((j
 -- pivot rows are independent; pivot rows differ, and so do pivot columns; there are no more than rows, than columns, and than the rank
 pub record PivotLaws (K : Operations) (n m : ℕ) (A : ℕ → ℕ → ℕ) (S : Pivots) : Type 0 where
   pub independent : Independent K m S.count (rows_at A S.row)
-  pub rows_differ : (k l : ℕ) → k < S.count → l < S.count → S.row k ≡ S.row l → k ≡ l
-  pub columns_differ : (k l : ℕ) → k < S.count → l < S.count → S.column k ≡ S.column l → k ≡ l
+  pub rows_differ : Distinct S.count S.row
+  pub columns_differ : Distinct S.count S.column
   pub at_most_rows : S.count ≤ n
   pub at_most_columns : S.count ≤ m
   pub at_most_rank : S.count ≤ rank K n m A
 
 -- choices that satisfy all rows and agree outside the pivot columns are equal; with as many pivots as columns there is at most one
 pub record UniquenessLaws (K : Operations) (n m : ℕ) (A : ℕ → ℕ → ℕ) (S : Pivots) : Type 0 where
-  pub determined : (b x y : ℕ → ℕ) → SolvesAll K n m A b x → SolvesAll K n m A b y → ((j : ℕ) → j < m → ((k : ℕ) → k < S.count → S.column k ≢ j) → x j % K.q ≡ y j % K.q) → (j : ℕ) → j < m → x j % K.q ≡ y j % K.q
+  pub determined : (b x y : ℕ → ℕ) → SolvesAll K n m A b x → SolvesAll K n m A b y → ((j : ℕ) → j < m → Outside S.count S.column j → x j % K.q ≡ y j % K.q) → (j : ℕ) → j < m → x j % K.q ≡ y j % K.q
   pub unique : S.count ≡ m → (b x y : ℕ → ℕ) → SolvesAll K n m A b x → SolvesAll K n m A b y → (j : ℕ) → j < m → x j % K.q ≡ y j % K.q
 
 -- for a column j outside the pivots', where every row is a combination of the pivot rows
 pub record KernelLaws (K : Operations) (n m : ℕ) (A : ℕ → ℕ → ℕ) (S : Pivots) (j : ℕ) : Type 0 where
   pub own : kernel_vector K A S j j ≡ 1
   pub at_pivots : (k : ℕ) → k < S.count → kernel_vector K A S j (S.column k) ≡ K.negative (column_coefficients K A S j k)
-  pub elsewhere : (c : ℕ) → j ≢ c → ((k : ℕ) → k < S.count → S.column k ≢ c) → kernel_vector K A S j c ≡ 0
+  pub elsewhere : (c : ℕ) → j ≢ c → Outside S.count S.column c → kernel_vector K A S j c ≡ 0
   pub kernel : (i : ℕ) → i < n → mul_vec K m A (kernel_vector K A S j) i ≡ 0
   -- so whatever satisfies all rows still does with any multiple of it added
   pub free : (b x : ℕ → ℕ) (c : ℕ) → SolvesAll K n m A b x → SolvesAll K n m A b (λ k. K.plus (x k) (K.times c (kernel_vector K A S j k)))
@@ -82,13 +85,19 @@ pub record EliminationLaws (K : Operations) (m : ℕ) (A : ℕ → ℕ → ℕ) 
   pub start : Elimination K m A 0 no_pivots
   pub stay : (i : ℕ) (S : Pivots) → Elimination K m A i S → ((j : ℕ) → j < m → schur K A S i j ≡ 0) → Elimination K m A (suc i) S
   pub grow : (i : ℕ) (S : Pivots) → Elimination K m A i S → (j : ℕ) → j < m → schur K A S i j ≢ 0 → Elimination K m A (suc i) (grow K A S i j)
+  -- one for each number of rows
+  pub run : (i : ℕ) → Elimination K m A i (eliminate K m A i)
   -- after i rows the pivot rows are the profile of these, and span them
   pub profile : (i : ℕ) (S : Pivots) → Elimination K m A i S → RankProfile K i m A (pivot_rows S)
   pub spans : (i : ℕ) (S : Pivots) → Elimination K m A i S → (r : ℕ) → r < i → InSpan K m S.count (rows_at A S.row) (A r)
 
--- each matrix has one row rank profile, and it is the lexicographically least of the longest lists of independent rows
+-- each matrix has one row rank profile; it is the lexicographically least of the longest lists of independent rows, spans all
+-- rows, and is as long as the rank
 pub record ProfileLaws (K : Operations) (n m : ℕ) (A : ℕ → ℕ → ℕ) : Type 0 where
   pub computed : RankProfile K n m A (rank_profile K n m A)
   pub unique : (xs ys : List ℕ) → RankProfile K n m A xs → RankProfile K n m A ys → xs ≡ ys
   pub least_longest : (xs : List ℕ) → RankProfile K n m A xs ↔ LeastLongest K n m A xs
+  pub spans : (xs : List ℕ) → RankProfile K n m A xs → (r : ℕ) → r < n → InSpan K m (length xs) (rows_at A (slice_index xs)) (A r)
   pub rank_length : (xs : List ℕ) → RankProfile K n m A xs → length xs ≡ rank K n m A
+  pub rank_rows : rank K n m A ≤ n
+  pub rank_columns : rank K n m A ≤ m

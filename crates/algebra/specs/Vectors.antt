@@ -35,6 +35,10 @@ submatrix A P Q k l = A (P k) (Q l)
 abbrev pub place : Operations → ℕ → (ℕ → ℕ) → (ℕ → ℕ) → ℕ → ℕ
 place K s Q y j = Σ K s (λ k. K.times (y k) (δ (Q k) j))
 
+-- 1 at place i, less what is placed
+abbrev pub unit_minus : Operations → ℕ → ℕ → (ℕ → ℕ) → (ℕ → ℕ) → ℕ → ℕ
+unit_minus K i s Q y j = K.plus (δ i j) (K.negative (place K s Q y j))
+
 -- f with y at s
 abbrev pub extend : {X : Type 0} → ℕ → (ℕ → X) → X → ℕ → X
 extend s f y k = cond (k == s) y (f k)

@@ -1,5 +1,6 @@
 //! The theorems, each demanded by the contract of a function that does nothing.
 ghost use Rattle.std.specs.Prelude.{◌≡◌, ◌≢◌, ℕ, ◌<◌};
+ghost use Rattle.algebra.specs.Places.{Outside};
 ghost use Rattle.algebra.specs.Vectors.{rows_at};
 ghost use Rattle.algebra.specs.Spans.{InSpan};
 ghost use Rattle.algebra.specs.Pivots.{Pivots, PivotsOf};
@@ -48,7 +49,7 @@ pub fn pivots_determine<F: Field>()
 pub fn other_columns_are_free<F: Field>()
     ensures { (n m : ℕ) (A : ℕ → ℕ → ℕ) (S : Pivots) → PivotsOf F.Field.ops n m A S →
         ((i : ℕ) → i < n → InSpan F.Field.ops m S.count (rows_at A S.row) (A i)) →
-        (j : ℕ) → j < m → ((k : ℕ) → k < S.count → S.column k ≢ j) → KernelLaws F.Field.ops n m A S j }
+        (j : ℕ) → j < m → Outside S.count S.column j → KernelLaws F.Field.ops n m A S j }
 {}
 
 // An elimination may begin with nothing, pass over a row that the pivot rows give, and take any other as a pivot.

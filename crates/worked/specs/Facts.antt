@@ -3,6 +3,8 @@ use Rattle.std.specs.Prelude.{◌≡◌, ℕ, List, [], ◌∷◌, Some, None}
 use Rattle.field.specs.Operations.{reciprocal}
 use Rattle.field.specs.Modulo.{modulo}
 use Rattle.field.specs.Octets.{octets, power}
+use Rattle.algebra.specs.Profiles.{rank_profile}
+use Rattle.algebra.specs.Examples.{matrix}
 use Rattle.frame.specs.declared.terms.Term.{Term}
 use Rattle.rows.specs.Systems.{Row, System, row_at}
 use Rattle.rows.specs.Values.{choice, row_value, column_value}
@@ -32,3 +34,5 @@ pub record WorkedFacts : Type 0 where
   pub last_column : column_value (modulo 65521) three_rows (choice (65520 ∷ 65520 ∷ 1 ∷ [])) 1 ≡ 0
   -- with 7 noted for the last minute
   pub third_row_noted : row_under (modulo 65521) (None ∷ Some 7 ∷ []) (row_at three_rows 2) ≡ row 11 (term 0 2 ∷ [])
+  -- of the rows (1,1), (2,2) and (0,1) the second is a combination of the first
+  pub profile : rank_profile (modulo 65521) 3 2 (matrix ((1 ∷ 1 ∷ []) ∷ (2 ∷ 2 ∷ []) ∷ (0 ∷ 1 ∷ []) ∷ [])) ≡ 0 ∷ 2 ∷ []

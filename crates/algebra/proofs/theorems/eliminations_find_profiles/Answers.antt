@@ -1,6 +1,5 @@
 -- From the laws of the bound. Assumes nothing.
-use Rattle.std.proofs.Common.{arith}
-use Rattle.algebra.proofs.Elimination.{Elimination-start, Elimination-stay, Elimination-grow, InSpan-of_pivots}
+use Rattle.algebra.proofs.Elimination.{Elimination-start, Elimination-stay, Elimination-grow, eliminate-Elimination, InSpan-of_all_pivots}
 use Rattle.algebra.proofs.Profiles.{pivot_rows-RankProfile}
 use Rattle.field.specs.LawsForAll.{lawful}
 use Rattle.algebra.proofs.theorems.eliminations_find_profiles.Goals as goal
@@ -12,6 +11,7 @@ returns g c m A =
       start = Elimination-start F m A;
       stay = Elimination-stay F m A;
       grow = Elimination-grow F m A;
+      run = eliminate-Elimination F m A;
       profile = λ i S E. pivot_rows-RankProfile F m i A S E;
-      spans = λ i S E. InSpan-of_pivots F m A i S E S.count i (omega arith) (omega arith) (λ k h _. h);
+      spans = InSpan-of_all_pivots F m A;
     }

@@ -9,8 +9,8 @@ returns g c n m A S I =
     let F = lawful g.F.Field.ops g.met.F.Field.laws in
     record {
       independent = pivots.pivot_rows-Independent F n m A S I;
-      rows_differ = pivots.pivot_rows-injective F n m A S I;
-      columns_differ = pivots.pivot_columns-injective F n m A S I;
+      rows_differ = pivots.pivot_rows-Distinct F n m A S I;
+      columns_differ = pivots.pivot_columns-Distinct F n m A S I;
       at_most_rows = pivots.count-le_rows F n m A S I;
       at_most_columns = pivots.count-le_columns F n m A S I;
       at_most_rank = count-le_rank F m n A S I;

@@ -1,6 +1,7 @@
 -- From the laws of the bound. Assumes nothing.
 use Rattle.algebra.specs.Vectors.{mul_vec}
-use Rattle.algebra.proofs.Sums.{place-elsewhere}
+use Rattle.algebra.specs.Pivots.{row_coefficients}
+use Rattle.algebra.proofs.Sums.{place-elsewhere, unit_minus-own, unit_minus-at, unit_minus-elsewhere}
 use Rattle.algebra.proofs.Pivots as pivots
 use Rattle.field.specs.LawsForAll.{lawful}
 use Rattle.algebra.proofs.theorems.pivots_solve.Goals as goal
@@ -15,5 +16,7 @@ returns g c n m A S I =
       multipliers_columns = pivots.vec_mul-multipliers F n m A S I;
       schur_at_pivots = pivots.schur-pivot_column F n m A S I;
       multipliers_sums = pivots.dot-multipliers F n m A S I;
-      multipliers_own = pivots.multipliers-own F n m A S I;
+      multipliers_own = λ i. unit_minus-own F i S.count S.row (row_coefficients F.ops A S i);
+      multipliers_at_pivots = λ i. unit_minus-at F i S.count S.row (row_coefficients F.ops A S i) (pivots.pivot_rows-Distinct F n m A S I);
+      multipliers_elsewhere = λ i. unit_minus-elsewhere F i S.count S.row (row_coefficients F.ops A S i);
     }

@@ -1,13 +1,14 @@
 -- Computed. Assumes nothing.
 use Rattle.std.proofs.Common.{refl}
-use Rattle.field.specs.Operations.{first_from, reciprocal}
+use Rattle.field.specs.Operations.{first_from, reciprocal, inverse}
 use Rattle.field.specs.Octets.{product, remainder, octet_times, power}
 use Rattle.field.specs.Sums.{Σ}
+use Rattle.algebra.specs.Profiles.{with_row, eliminate}
 use Rattle.rows.specs.Values.{weighted}
 use Rattle.worked.proofs.facts.worked_facts.Goals as goal
 
 pub returns : goal.returns
-unfolding first_from reciprocal product remainder octet_times power Σ weighted
+unfolding first_from reciprocal inverse product remainder octet_times power Σ weighted with_row eliminate
 returns c =
     record {
       prime_product = refl;
@@ -19,4 +20,5 @@ returns c =
       first_column = refl;
       last_column = refl;
       third_row_noted = refl;
+      profile = refl;
     }
