@@ -4,6 +4,7 @@ pub mod Products
 pub mod Growth
 pub mod Spans
 pub mod Pivots
+pub mod Lists
 pub mod Elimination
 pub mod Exchange
 pub mod Profiles

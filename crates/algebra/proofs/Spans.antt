@@ -1,5 +1,5 @@
 -- Spans and independence. Assumes nothing.
-use Rattle.std.proofs.Common.{◌≡◌, ℕ, ◌%◌, ◌<◌, sym, ap, ◌∙◌, inl, inr, arith}
+use Rattle.std.proofs.Common.{◌≡◌, ℕ, ◌%◌, ◌<◌, sym, ap, subst, ◌∙◌, inl, inr, arith}
 use Rattle.std.proofs.lemmas.Bool.{cases_lt}
 use Rattle.field.specs.Laws.{Lawful}
 use Rattle.field.proofs.FieldLemmas.{one-mod-q, times_right, zero_difference}
@@ -41,6 +41,18 @@ module _ (F : Lawful) (m : ℕ) where
   -- rows among the first n of A span no more than these
   pub InSpan-of_rows_at : (s n : ℕ) (P : ℕ → ℕ) (A : ℕ → ℕ → ℕ) (x : ℕ → ℕ) → Below s P n → InSpan F.ops m s (rows_at A P) x → InSpan F.ops m n A x
   InSpan-of_rows_at s n P A x below is = InSpan-trans s n (rows_at A P) A x is (λ k h. InSpan-self n (P k) A (below k h))
+
+  -- equal rows
+  pub vec_mul-congr : (s : ℕ) (c : ℕ → ℕ) (R Q : ℕ → ℕ → ℕ) → ((k : ℕ) → k < s → (j : ℕ) → R k j ≡ Q k j) → (j : ℕ) → vec_mul F.ops s c R j ≡ vec_mul F.ops s c Q j
+  vec_mul-congr s c R Q same j = Σ-congr F s (λ k. c k ⊗ R k j) (λ k. c k ⊗ Q k j) (λ k h. ap (λ z. c k ⊗ z) (same k h j))
+
+  pub Independent-congr : (s t : ℕ) (R Q : ℕ → ℕ → ℕ) → s ≡ t → ((k : ℕ) → k < s → (j : ℕ) → R k j ≡ Q k j) → Independent F.ops m s R → Independent F.ops m t Q
+  Independent-congr s t R Q e same independent =
+      subst (λ t. Independent F.ops m t Q) e (λ c none. independent c (λ j h. vec_mul-congr s c R Q same j ∙ none j h))
+
+  pub InSpan-congr : (s t : ℕ) (R Q : ℕ → ℕ → ℕ) (x : ℕ → ℕ) → s ≡ t → ((k : ℕ) → k < s → (j : ℕ) → R k j ≡ Q k j) → InSpan F.ops m s R x → InSpan F.ops m t Q x
+  InSpan-congr s t R Q x e same is =
+      subst (λ t. InSpan F.ops m t Q x) e (is.0, λ j h. is.1 j h ∙ vec_mul-congr s is.0 R Q same j)
 
   -- of independent rows none is a combination of those before it
   pub not_InSpan-of_Independent : (s k : ℕ) (R : ℕ → ℕ → ℕ) → Independent F.ops m s R → k < s → InSpan F.ops m k R (R k) → ⊥
