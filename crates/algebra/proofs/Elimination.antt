@@ -1,7 +1,7 @@
 -- The elimination: what it keeps holds at the start, stays where a row is stale and grows where it is fresh. Assumes nothing.
 use Rattle.std.proofs.Common.{◌≡◌, ℕ, zero, suc, ◌<◌, ◌≤◌, ◌≢◌, ◌⊎◌, ◌==◌, not, Some, None, true, sym, refl, ap, subst, ◌∙◌, inl, inr, arith}
 use Rattle.std.proofs.lemmas.Bool.{cases_eq, cases_lt, eq-eqb, ne_eqb, true≢false}
-use Rattle.field.specs.Reciprocals.{found, missed}
+use Rattle.field.specs.Reciprocals.{first_from-some, first_from-none}
 use Rattle.field.specs.Laws.{Lawful}
 use Rattle.algebra.specs.Places.{Among}
 use Rattle.algebra.specs.Vectors.{rows_at, extend}
@@ -104,8 +104,8 @@ module _ (F : Lawful) (m : ℕ) (A : ℕ → ℕ → ℕ) where
   with_row-ways S i P stale fresh =
       let test = λ (j : ℕ). not (schur F.ops A S i j == 0) in
       (elim (fresh_column F.ops m A S i) as (λ o. fresh_column F.ops m A S i ≡ o → P (elim o [ None ↦ S | Some j ↦ grow F.ops A S i j ])) [
-        | None ↦ λ e. stale (λ j h. not_true-zero (schur F.ops A S i j) (missed test m 0 j e (omega arith) (omega arith)))
-        | Some j ↦ λ e. let f = found test m 0 j e in fresh j (omega (arith, f.1)) (true-ne_zero (schur F.ops A S i j) f.0)
+        | None ↦ λ e. stale (λ j h. not_true-zero (schur F.ops A S i j) (first_from-none test m 0 j e (omega arith) (omega arith)))
+        | Some j ↦ λ e. let f = first_from-some test m 0 j e in fresh j (omega (arith, f.1)) (true-ne_zero (schur F.ops A S i j) f.0)
       ])
       refl
 

@@ -12,9 +12,8 @@ use Rattle.algebra.proofs.Pivots.{InSpan-of_schur, count-le_columns}
 use Rattle.algebra.proofs.Elimination.{with_row-ways, eliminate-Elimination}
 
 module _ (F : Lawful) (m s r : ℕ) (X Y : ℕ → ℕ → ℕ) where
-  open F.ops use {plus as ◌⊕◌, times as ◌⊗◌, negative, q}
+  open F.ops use {times as ◌⊗◌}
 
-  infixl 60 ◌⊕◌
   infixl 70 ◌⊗◌
   -- where the coefficients of row i are a combination of those of the rows before it, so is row i
   InSpan-of_coefficients : (C : ℕ → ℕ → ℕ) (i : ℕ) → ((k : ℕ) → k < suc i → Combination F.ops m r X (C k) (Y k)) → InSpan F.ops r i C (C i) → InSpan F.ops m i Y (Y i)

@@ -11,11 +11,11 @@ use Rattle.algebra.proofs.Sums.{Σ-mod}
 use Rattle.algebra.proofs.Products.{dot_comm, dot-linear, dot-scaled, dot-mul_vec, dot-suc, vec_mul-vec_mul_inverse, mul_vec-mul_vec_inverse}
 
 -- X is the s × s matrix M with the column a, the row v and the corner d
-record Bordered (s : ℕ) (X M : ℕ → ℕ → ℕ) (a v : ℕ → ℕ) (d : ℕ) : Type 0 where
-  block : (k l : ℕ) → k < s → l < s → X k l ≡ M k l
-  column : (k : ℕ) → k < s → X k s ≡ a k
-  row : (l : ℕ) → l < s → X s l ≡ v l
-  corner : X s s ≡ d
+pub record Bordered (s : ℕ) (X M : ℕ → ℕ → ℕ) (a v : ℕ → ℕ) (d : ℕ) : Type 0 where
+  pub block : (k l : ℕ) → k < s → l < s → X k l ≡ M k l
+  pub column : (k : ℕ) → k < s → X k s ≡ a k
+  pub row : (l : ℕ) → l < s → X s l ≡ v l
+  pub corner : X s s ≡ d
 
 bordered-Bordered : (s : ℕ) (M : ℕ → ℕ → ℕ) (a v : ℕ → ℕ) (d : ℕ) → Bordered s (bordered s M a v d) M a v d
 bordered-Bordered s M a v d =
@@ -144,7 +144,7 @@ module _ (F : Lawful) (s : ℕ) where
         ∙ δ-comm l k
 
   -- the inverse of a bordered matrix, by its Schur complement
-  Inverse-grown : (M B X : ℕ → ℕ → ℕ) (a v : ℕ → ℕ) (d : ℕ) → Bordered s X M a v d → Inverse F.ops s M B → d ⊕ negative (dot F.ops s (vec_mul F.ops s v B) a) ≢ 0 →
+  pub Inverse-grown : (M B X : ℕ → ℕ → ℕ) (a v : ℕ → ℕ) (d : ℕ) → Bordered s X M a v d → Inverse F.ops s M B → d ⊕ negative (dot F.ops s (vec_mul F.ops s v B) a) ≢ 0 →
       Inverse F.ops (suc s) X (grown F.ops s B (mul_vec F.ops s B a) (inverse F.ops (d ⊕ negative (dot F.ops s (vec_mul F.ops s v B) a))) (vec_mul F.ops s v B))
   unfolding y z t w
   Inverse-grown M B X a v d old I some = record { left = grown-left M B X a v d old I some; right = grown-right M B X a v d old I some }

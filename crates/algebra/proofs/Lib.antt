@@ -3,6 +3,7 @@ pub mod Sums
 pub mod Products
 pub mod Growth
 pub mod Spans
+pub mod Systems
 pub mod Pivots
 pub mod Lists
 pub mod Elimination

@@ -7,22 +7,11 @@ use Rattle.algebra.specs.Places.{Distinct, Outside}
 use Rattle.algebra.specs.Vectors.{dot, mul_vec, vec_mul, submatrix, rows_at, place}
 use Rattle.algebra.specs.Spans.{Combination, InSpan, Independent, Solves, SolvesAll}
 use Rattle.algebra.specs.Pivots.{Pivots, PivotsOf, row_coefficients, column_coefficients, schur, solution, multipliers, kernel_vector}
-use Rattle.algebra.specs.Theorems.{NoSolution}
 use Rattle.algebra.proofs.Deltas.{δ-self, eq-of_δ}
 use Rattle.algebra.proofs.Counting.{Among-or_Outside, le-of_Distinct, Among-of_Distinct}
 use Rattle.algebra.proofs.Sums.{Σ-mod, Σ-place, place-at, place-elsewhere}
+use Rattle.algebra.proofs.Spans.{InSpan-self}
 use Rattle.algebra.proofs.Products.{dot_comm, dot-congr_mod, mul_vec-linear, mul_vec-minus, dot-mul_vec, dot-of_zero, dot-unit_minus, vec_mul-vec_mul_inverse, mul_vec-mul_vec_inverse}
-
--- a combination of the rows that is 0 where that of the sums is not
-pub no_solution : (F : Lawful) → NoSolution F.ops
-no_solution F n m A b u null some x xs =
-    some
-    (dot_comm F n u b
-    ∙ sym (dot-congr_mod F n (mul_vec F.ops m A x) b u (λ i h. ap (λ z. z % F.ops.q) (xs i h) ∙ mod-mod (b i) F.ops.q))
-    ∙ dot_comm F n (mul_vec F.ops m A x) u
-    ∙ dot-mul_vec F n m u A x
-    ∙ dot_comm F m (vec_mul F.ops n u A) x
-    ∙ dot-of_zero F m x (vec_mul F.ops n u A) (λ j h. ap (λ z. z % F.ops.q) (null j h) ∙ zero-mod-q F))
 
 module _ (F : Lawful) (n m : ℕ) (A : ℕ → ℕ → ℕ) (S : Pivots) (I : PivotsOf F.ops n m A S) where
   open F.ops use {plus as ◌⊕◌, times as ◌⊗◌, negative, q}
@@ -91,20 +80,20 @@ module _ (F : Lawful) (n m : ℕ) (A : ℕ → ℕ → ℕ) (S : Pivots) (I : Pi
       ∙ ap (λ x. A i j ⊕ negative x)
       (dot_comm F s (column_coefficients F.ops A S j) (at_columns i) ∙ dot-mul_vec F s s (at_columns i) B (at_rows j))
 
-  -- it is 0 at the pivot columns
+  -- the Schur complement is 0 at the pivot columns
   pub schur-pivot_column : (i k : ℕ) → k < s → schur F.ops A S i (Q k) ≡ 0
   schur-pivot_column i k h =
       zero_difference F (A i (Q k)) (vec_mul F.ops s (row_coefficients F.ops A S i) M k)
       (sym (vec_mul-vec_mul_inverse F s k (at_columns i) B M I.inverts.left h) ∙ sym (Σ-mod F s (λ l. row_coefficients F.ops A S i l ⊗ M l k)))
 
-  -- what makes row i of the pivot rows are its coefficients
+  -- whatever coefficients make row i of the pivot rows are vB
   coefficients-of_Combination : (i : ℕ) (c : ℕ → ℕ) → Combination F.ops m s (rows_at A P) c (A i) → (l : ℕ) → l < s → row_coefficients F.ops A S i l ≡ c l % q
   coefficients-of_Combination i c is l h =
       dot-congr_mod F s (at_columns i) (vec_mul F.ops s c M) (λ k. B k l)
       (λ k hk. is (Q k) (I.columns_below k hk) ∙ sym (Σ-mod F s (λ l. c l ⊗ M l k)))
       ∙ vec_mul-vec_mul_inverse F s l c M B I.inverts.right h
 
-  -- the Schur complement is 0 in a row just where this is a combination of the pivot rows
+  -- it is 0 in all of a row just where this is a combination of the pivot rows
   pub schur-of_InSpan : (i j : ℕ) → j < m → InSpan F.ops m s (rows_at A P) (A i) → schur F.ops A S i j ≡ 0
   schur-of_InSpan i j h is =
       let c = is.0 in
@@ -117,6 +106,9 @@ module _ (F : Lawful) (n m : ℕ) (A : ℕ → ℕ → ℕ) (S : Pivots) (I : Pi
     row_coefficients F.ops A S i,
     λ j h. difference_zero F (A i j) (dot F.ops s (row_coefficients F.ops A S i) (at_rows j)) (none j h) ∙ Σ-mod F s (λ l. row_coefficients F.ops A S i l ⊗ A (P l) j),
   )
+
+  pub schur-pivot_row : (k j : ℕ) → k < s → j < m → schur F.ops A S (P k) j ≡ 0
+  schur-pivot_row k j hk h = schur-of_InSpan (P k) j h (InSpan-self F m s k (rows_at A P) hk)
 
   -- a vector that the pivot rows make 0 is 0 where it is 0 at all columns but the pivots'
   module _ (e : ℕ → ℕ) (null : (k : ℕ) → k < s → mul_vec F.ops m A e (P k) ≡ 0) (outside : (j : ℕ) → j < m → Outside s Q j → e j % q ≡ 0) where

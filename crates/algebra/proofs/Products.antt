@@ -22,6 +22,9 @@ module _ (F : Lawful) where
       Σ-congr F n (λ k. x k ⊗ z k) (λ k. y k ⊗ z k)
       (λ k h. sym (times_left F (x k) (z k)) ∙ ap (λ a. a ⊗ z k) (same k h) ∙ times_left F (y k) (z k))
 
+  pub vec_mul-congr : (s : ℕ) (c : ℕ → ℕ) (R Q : ℕ → ℕ → ℕ) → ((k : ℕ) → k < s → (j : ℕ) → R k j ≡ Q k j) → (j : ℕ) → vec_mul F.ops s c R j ≡ vec_mul F.ops s c Q j
+  vec_mul-congr s c R Q same j = Σ-congr F s (λ k. c k ⊗ R k j) (λ k. c k ⊗ Q k j) (λ k h. ap (λ z. c k ⊗ z) (same k h j))
+
   -- f + c · g in the place of a vector
   pub dot-linear : (n c : ℕ) (h f g x : ℕ → ℕ) → ((k : ℕ) → k < n → h k % q ≡ f k ⊕ c ⊗ g k) → dot F.ops n h x ≡ dot F.ops n f x ⊕ c ⊗ dot F.ops n g x
   dot-linear n c h f g x is =

@@ -2,130 +2,133 @@
 use Rattle.std.proofs.Common.{◌≡◌, ◌≢◌, ℕ, ◌+◌, ◌<◌, ◌≤◌, ◌↔◌, List, length, get_or, slice_index, Greater, sym, refl, ap, subst, ◌∙◌, inl, inr, arith}
 use Rattle.std.specs.Ordering.{nat_cmp}
 use Rattle.std.specs.Cmp.Lexicographic.{slice_cmp}
-use Rattle.std.proofs.lemmas.Bool.{cases_lt}
+use Rattle.std.proofs.lemmas.Bool.{cases_eq, cases_lt}
 use Rattle.std.proofs.lemmas.List.FromFn.{length-map-range_with_len, get_or-map-range_with_len}
 use Rattle.field.specs.Laws.{Lawful}
 use Rattle.algebra.specs.Vectors.{rows_at}
 use Rattle.algebra.specs.Spans.{InSpan}
-use Rattle.algebra.specs.Pivots.{Pivots, PivotsOf}
+use Rattle.algebra.specs.Pivots.{Pivots, PivotsOf, schur, grow}
 use Rattle.algebra.specs.Profiles.{InProfile, RankProfile, IndependentRows, LeastLongest, Elimination, eliminate, pivot_rows, rank_profile, rank}
 use Rattle.algebra.proofs.Spans.{InSpan-congr, Independent-congr, not_InSpan-of_Independent}
-use Rattle.algebra.proofs.Pivots.{pivot_rows-Independent, count-le_rows, count-le_columns}
+use Rattle.algebra.proofs.Pivots.{pivot_rows-Independent, InSpan-of_schur}
+use Rattle.algebra.proofs.Growth.{grow-PivotsOf}
 use Rattle.algebra.proofs.Exchange.{le-of_Independent}
 use Rattle.algebra.proofs.Lists.{not_Greater, same-of_not_Greater, same-of_rising}
 use Rattle.algebra.proofs.Elimination.{InSpan-of_pivots, InSpan-of_all_pivots, InProfile-of_pivot, index-lt_of_row, eliminate-Elimination}
 
-module _ (F : Lawful) (m : ℕ) where
-  module _ (n : ℕ) (A : ℕ → ℕ → ℕ) where
-    module _ (S : Pivots) (E : Elimination F.ops m A n S) where
-      long : length (pivot_rows S) ≡ S.count
-      long = length-map-range_with_len S.row 0 S.count
+module _ (F : Lawful) (n m : ℕ) (A : ℕ → ℕ → ℕ) where
+  module _ (S : Pivots) (E : Elimination F.ops m A n S) where
+    long : length (pivot_rows S) ≡ S.count
+    long = length-map-range_with_len S.row 0 S.count
 
-      at : (k d : ℕ) → k < S.count → get_or (pivot_rows S) k d ≡ S.row k
-      at k d h = get_or-map-range_with_len S.row 0 S.count k k d h (omega arith)
+    at : (k d : ℕ) → k < S.count → get_or (pivot_rows S) k d ≡ S.row k
+    at k d h = get_or-map-range_with_len S.row 0 S.count k k d h (omega arith)
 
-      -- the pivot rows of an elimination are the profile of the rows it has looked at
-      pub pivot_rows-RankProfile : RankProfile F.ops n m A (pivot_rows S)
-      pivot_rows-RankProfile =
-          record {
-            rising = λ k h. let l = long in let a = at k 0 (omega arith) in let b = at (k + 1) 0 (omega arith) in let r = E.rising k (k + 1) (omega arith) (omega arith) in omega arith;
-            members = λ i. (
-              λ is.
-                  let l = long in
-                  let e = sym (at is.0 i (omega (arith, is.1))) ∙ is.2 in
-                  subst (λ r. (r < n) × InProfile F.ops m A r) e (E.pivots.rows_below is.0 (omega (arith, is.1)), InProfile-of_pivot F m A n S E is.0 (omega (arith, is.1))),
-              λ new.
-                  elim (E.others i new.0) [
-                    | inl pivot ↦ (pivot.0, (let l = long in omega (arith, pivot.1)), at pivot.0 i pivot.1 ∙ pivot.2)
-                    | inr is ↦ absurd (new.1 is)
-                  ],
-            );
-          }
+    -- the pivot rows of an elimination are the profile of the rows it has looked at
+    pub pivot_rows-RankProfile : RankProfile F.ops n m A (pivot_rows S)
+    pivot_rows-RankProfile =
+        record {
+          rising = λ k h. let l = long in let a = at k 0 (omega arith) in let b = at (k + 1) 0 (omega arith) in let r = E.rising k (k + 1) (omega arith) (omega arith) in omega arith;
+          members = λ i. (
+            λ is.
+                let l = long in
+                let e = sym (at is.0 i (omega (arith, is.1))) ∙ is.2 in
+                subst (λ r. (r < n) × InProfile F.ops m A r) e (E.pivots.rows_below is.0 (omega (arith, is.1)), InProfile-of_pivot F m A n S E is.0 (omega (arith, is.1))),
+            λ new.
+                elim (E.others i new.0) [
+                  | inl pivot ↦ (pivot.0, (let l = long in omega (arith, pivot.1)), at pivot.0 i pivot.1 ∙ pivot.2)
+                  | inr is ↦ absurd (new.1 is)
+                ],
+          );
+        }
 
-      pivot_rows-IndependentRows : IndependentRows F.ops n m A (pivot_rows S)
-      pivot_rows-IndependentRows =
-          record {
-            below = λ k d h. let l = long in let a = at k d (omega arith) in let b = E.pivots.rows_below k (omega arith) in omega arith;
-            independent =
-                Independent-congr F m S.count (length (pivot_rows S)) (rows_at A S.row) (rows_at A (slice_index (pivot_rows S))) (sym long)
-                (λ k h j. ap (λ r. A r j) (sym (at k 0 h)))
-                (pivot_rows-Independent F n m A S E.pivots);
-          }
+    pivot_rows-IndependentRows : IndependentRows F.ops n m A (pivot_rows S)
+    pivot_rows-IndependentRows =
+        record {
+          below = λ k d h. let l = long in let a = at k d (omega arith) in let b = E.pivots.rows_below k (omega arith) in omega arith;
+          independent =
+              Independent-congr F m S.count (length (pivot_rows S)) (rows_at A S.row) (rows_at A (slice_index (pivot_rows S))) (sym long)
+              (λ k h j. ap (λ r. A r j) (sym (at k 0 h)))
+              (pivot_rows-Independent F n m A S E.pivots);
+        }
 
-      module _ (ys : List ℕ) (I : IndependentRows F.ops n m A ys) where
-        most : length ys ≤ S.count
-        most = le-of_Independent F m (length ys) S.count (rows_at A S.row) (rows_at A (slice_index ys)) I.independent
-            (λ k h. InSpan-of_all_pivots F m A n S E (slice_index ys k) (I.below k 0 h))
+    module _ (ys : List ℕ) (I : IndependentRows F.ops n m A ys) where
+      most : length ys ≤ S.count
+      most = le-of_Independent F m (length ys) S.count (rows_at A S.row) (rows_at A (slice_index ys)) I.independent
+          (λ k h. InSpan-of_all_pivots F m A n S E (slice_index ys k) (I.below k 0 h))
 
-        least : length ys ≡ length (pivot_rows S) → slice_cmp nat_cmp (pivot_rows S) ys ≢ Greater
-        least e =
-            not_Greater (pivot_rows S) ys e
-            (λ k h agree.
-            let l = long in
-            let a = at k 0 (omega arith) in
-            elim (cases_lt (slice_index ys k) (S.row k)) [
-              | inr more ↦ omega arith
-              | inl less ↦
-                  absurd
-                  (not_InSpan-of_Independent F m (length ys) k (rows_at A (slice_index ys)) I.independent (omega arith)
-                  (InSpan-congr F m k k (rows_at A S.row) (rows_at A (slice_index ys)) (A (slice_index ys k)) refl
-                  (λ j hj c. ap (λ r. A r c) (sym (at j 0 (omega arith)) ∙ agree j hj))
-                  (InSpan-of_pivots F m A n S E k (S.row k) (omega arith) (let b = E.pivots.rows_below k (omega arith) in omega arith)
-                  (λ i hi less. index-lt_of_row F m A n S E k i (omega arith) hi less) (slice_index ys k) less)))
-            ])
+      least : length ys ≡ length (pivot_rows S) → slice_cmp nat_cmp (pivot_rows S) ys ≢ Greater
+      least e =
+          not_Greater (pivot_rows S) ys e
+          (λ k h agree.
+          let l = long in
+          let a = at k 0 (omega arith) in
+          elim (cases_lt (slice_index ys k) (S.row k)) [
+            | inr more ↦ omega arith
+            | inl less ↦
+                absurd
+                (not_InSpan-of_Independent F m (length ys) k (rows_at A (slice_index ys)) I.independent (omega arith)
+                (InSpan-congr F m k k (rows_at A S.row) (rows_at A (slice_index ys)) (A (slice_index ys k)) refl
+                (λ j hj c. ap (λ r. A r c) (sym (at j 0 (omega arith)) ∙ agree j hj))
+                (InSpan-of_pivots F m A n S E k (S.row k) (omega arith) (let b = E.pivots.rows_below k (omega arith) in omega arith)
+                (λ i hi less. index-lt_of_row F m A n S E k i (omega arith) hi less) (slice_index ys k) less)))
+          ])
 
-      pub pivot_rows-LeastLongest : LeastLongest F.ops n m A (pivot_rows S)
-      pivot_rows-LeastLongest =
-          record {
-            independent = pivot_rows-IndependentRows;
-            longest = λ ys I. let l = long in let h = most ys I in omega arith;
-            least = least;
-          }
+    pub pivot_rows-LeastLongest : LeastLongest F.ops n m A (pivot_rows S)
+    pivot_rows-LeastLongest =
+        record {
+          independent = pivot_rows-IndependentRows;
+          longest = λ ys I. let l = long in let h = most ys I in omega arith;
+          least = least;
+        }
 
-    pub RankProfile-unique : (xs ys : List ℕ) → RankProfile F.ops n m A xs → RankProfile F.ops n m A ys → xs ≡ ys
-    RankProfile-unique xs ys X Y =
-        same-of_rising xs ys X.rising Y.rising
-        (λ i is. (Y.members i).1 ((X.members i).0 is))
-        (λ i is. (X.members i).1 ((Y.members i).0 is))
+  pub RankProfile-unique : (xs ys : List ℕ) → RankProfile F.ops n m A xs → RankProfile F.ops n m A ys → xs ≡ ys
+  RankProfile-unique xs ys X Y =
+      same-of_rising xs ys X.rising Y.rising
+      (λ i is. (Y.members i).1 ((X.members i).0 is))
+      (λ i is. (X.members i).1 ((Y.members i).0 is))
 
-    pub LeastLongest-unique : (xs ys : List ℕ) → LeastLongest F.ops n m A xs → LeastLongest F.ops n m A ys → xs ≡ ys
-    LeastLongest-unique xs ys X Y =
-        let some = Y.longest xs X.independent in
-        let more = X.longest ys Y.independent in
-        same-of_not_Greater xs ys (omega arith) (X.least ys Y.independent (omega arith)) (Y.least xs X.independent (omega arith))
+  pub LeastLongest-unique : (xs ys : List ℕ) → LeastLongest F.ops n m A xs → LeastLongest F.ops n m A ys → xs ≡ ys
+  LeastLongest-unique xs ys X Y =
+      let some = Y.longest xs X.independent in
+      let more = X.longest ys Y.independent in
+      same-of_not_Greater xs ys (omega arith) (X.least ys Y.independent (omega arith)) (Y.least xs X.independent (omega arith))
 
-    -- the two ways to say which list is the profile
-    pub RankProfile-iff_LeastLongest : (xs : List ℕ) → RankProfile F.ops n m A xs ↔ LeastLongest F.ops n m A xs
-    RankProfile-iff_LeastLongest xs =
-        let E = eliminate-Elimination F m A n in
-        let S = eliminate F.ops m A n in (
-          λ X. subst (LeastLongest F.ops n m A) (RankProfile-unique (pivot_rows S) xs (pivot_rows-RankProfile S E) X) (pivot_rows-LeastLongest S E),
-          λ X. subst (RankProfile F.ops n m A) (LeastLongest-unique (pivot_rows S) xs (pivot_rows-LeastLongest S E) X) (pivot_rows-RankProfile S E),
-        )
+  found : Elimination F.ops m A n (eliminate F.ops m A n)
+  found = eliminate-Elimination F m A n
 
-    -- pivots are at most the rank
-    pub count-le_rank : (S : Pivots) → PivotsOf F.ops n m A S → S.count ≤ rank F.ops n m A
-    count-le_rank S I =
-        let T = eliminate F.ops m A n in
-        let E = eliminate-Elimination F m A n in
-        le-of_Independent F m S.count T.count (rows_at A T.row) (rows_at A S.row) (pivot_rows-Independent F n m A S I)
-        (λ k h. InSpan-of_all_pivots F m A n T E (S.row k) (I.rows_below k h))
+  pub rank_profile-RankProfile : RankProfile F.ops n m A (rank_profile F.ops n m A)
+  rank_profile-RankProfile = pivot_rows-RankProfile (eliminate F.ops m A n) found
 
-    pub rank_profile-RankProfile : RankProfile F.ops n m A (rank_profile F.ops n m A)
-    rank_profile-RankProfile = pivot_rows-RankProfile (eliminate F.ops m A n) (eliminate-Elimination F m A n)
+  -- the two ways to say which list is the profile
+  pub RankProfile-iff_LeastLongest : (xs : List ℕ) → RankProfile F.ops n m A xs ↔ LeastLongest F.ops n m A xs
+  RankProfile-iff_LeastLongest xs =
+      let S = eliminate F.ops m A n in (
+        λ X. subst (LeastLongest F.ops n m A) (RankProfile-unique (pivot_rows S) xs rank_profile-RankProfile X) (pivot_rows-LeastLongest S found),
+        λ X. subst (RankProfile F.ops n m A) (LeastLongest-unique (pivot_rows S) xs (pivot_rows-LeastLongest S found) X) rank_profile-RankProfile,
+      )
 
-    pub RankProfile-length : (xs : List ℕ) → RankProfile F.ops n m A xs → length xs ≡ rank F.ops n m A
-    RankProfile-length xs X = ap length (RankProfile-unique xs (rank_profile F.ops n m A) X rank_profile-RankProfile) ∙ long (eliminate F.ops m A n) (eliminate-Elimination F m A n)
+  pub RankProfile-length : (xs : List ℕ) → RankProfile F.ops n m A xs → length xs ≡ rank F.ops n m A
+  RankProfile-length xs X = ap length (RankProfile-unique xs (rank_profile F.ops n m A) X rank_profile-RankProfile) ∙ long (eliminate F.ops m A n) found
 
-    pub RankProfile-spans : (xs : List ℕ) → RankProfile F.ops n m A xs → (r : ℕ) → r < n → InSpan F.ops m (length xs) (rows_at A (slice_index xs)) (A r)
-    RankProfile-spans xs X r h =
-        let S = eliminate F.ops m A n in
-        let E = eliminate-Elimination F m A n in
-        subst (λ xs. InSpan F.ops m (length xs) (rows_at A (slice_index xs)) (A r)) (RankProfile-unique (pivot_rows S) xs rank_profile-RankProfile X)
-        (InSpan-congr F m S.count (length (pivot_rows S)) (rows_at A S.row) (rows_at A (slice_index (pivot_rows S))) (A r) (sym (long S E)) (λ k hk j. ap (λ r. A r j) (sym (at S E k 0 hk))) (InSpan-of_all_pivots F m A n S E r h))
+  pub RankProfile-spans : (xs : List ℕ) → RankProfile F.ops n m A xs → (r : ℕ) → r < n → InSpan F.ops m (length xs) (rows_at A (slice_index xs)) (A r)
+  RankProfile-spans xs X r h =
+      let S = eliminate F.ops m A n in
+      subst (λ xs. InSpan F.ops m (length xs) (rows_at A (slice_index xs)) (A r)) (RankProfile-unique (pivot_rows S) xs rank_profile-RankProfile X)
+      (InSpan-congr F m S.count (length (pivot_rows S)) (rows_at A S.row) (rows_at A (slice_index (pivot_rows S))) (A r) (sym (long S found)) (λ k hk j. ap (λ r. A r j) (sym (at S found k 0 hk))) (InSpan-of_all_pivots F m A n S found r h))
 
-    pub rank-le_rows : rank F.ops n m A ≤ n
-    rank-le_rows = count-le_rows F n m A (eliminate F.ops m A n) (eliminate-Elimination F m A n).pivots
+  -- pivots are at most the rank, and where they are as many they span all rows
+  pub count-le_rank : (S : Pivots) → PivotsOf F.ops n m A S → S.count ≤ rank F.ops n m A
+  count-le_rank S I =
+      let T = eliminate F.ops m A n in
+      le-of_Independent F m S.count T.count (rows_at A T.row) (rows_at A S.row) (pivot_rows-Independent F n m A S I)
+      (λ k h. InSpan-of_all_pivots F m A n T found (S.row k) (I.rows_below k h))
 
-    pub rank-le_columns : rank F.ops n m A ≤ m
-    rank-le_columns = count-le_columns F n m A (eliminate F.ops m A n) (eliminate-Elimination F m A n).pivots
+  pub InSpan-of_rank : (S : Pivots) → PivotsOf F.ops n m A S → S.count ≡ rank F.ops n m A → (i : ℕ) → i < n → InSpan F.ops m S.count (rows_at A S.row) (A i)
+  InSpan-of_rank S I full i h =
+      InSpan-of_schur F n m A S I i
+      (λ j hj.
+      elim (cases_eq (schur F.ops A S i j) 0) [
+        | inl none ↦ none
+        | inr some ↦ let more = count-le_rank (grow F.ops A S i j) (grow-PivotsOf F n m A S i j I h hj some) in absurd (omega arith)
+      ])

@@ -7,12 +7,11 @@ use Rattle.algebra.specs.Places.{Below}
 use Rattle.algebra.specs.Vectors.{δ, mul_vec, vec_mul, rows_at, unit_minus}
 use Rattle.algebra.specs.Spans.{Combination, InSpan, Independent}
 use Rattle.algebra.proofs.Sums.{Σ-congr, Σ-mod, Σ-δ, unit_minus-own}
-use Rattle.algebra.proofs.Products.{dot_comm, dot-mul_vec, dot-unit_minus}
+use Rattle.algebra.proofs.Products.{dot_comm, vec_mul-congr, dot-mul_vec, dot-unit_minus}
 
 module _ (F : Lawful) (m : ℕ) where
-  open F.ops use {plus as ◌⊕◌, times as ◌⊗◌, negative, q}
+  open F.ops use {times as ◌⊗◌, q}
 
-  infixl 60 ◌⊕◌
   infixl 70 ◌⊗◌
   -- the combinations of many rows as one matrix of coefficients
   pub coefficients : (s r : ℕ) (X Y : ℕ → ℕ → ℕ) → ((k : ℕ) → k < s → InSpan F.ops m r X (Y k)) → (C : ℕ → ℕ → ℕ) × ((k : ℕ) → k < s → Combination F.ops m r X (C k) (Y k))
@@ -43,16 +42,13 @@ module _ (F : Lawful) (m : ℕ) where
   InSpan-of_rows_at s n P A x below is = InSpan-trans s n (rows_at A P) A x is (λ k h. InSpan-self n (P k) A (below k h))
 
   -- equal rows
-  pub vec_mul-congr : (s : ℕ) (c : ℕ → ℕ) (R Q : ℕ → ℕ → ℕ) → ((k : ℕ) → k < s → (j : ℕ) → R k j ≡ Q k j) → (j : ℕ) → vec_mul F.ops s c R j ≡ vec_mul F.ops s c Q j
-  vec_mul-congr s c R Q same j = Σ-congr F s (λ k. c k ⊗ R k j) (λ k. c k ⊗ Q k j) (λ k h. ap (λ z. c k ⊗ z) (same k h j))
-
   pub Independent-congr : (s t : ℕ) (R Q : ℕ → ℕ → ℕ) → s ≡ t → ((k : ℕ) → k < s → (j : ℕ) → R k j ≡ Q k j) → Independent F.ops m s R → Independent F.ops m t Q
   Independent-congr s t R Q e same independent =
-      subst (λ t. Independent F.ops m t Q) e (λ c none. independent c (λ j h. vec_mul-congr s c R Q same j ∙ none j h))
+      subst (λ t. Independent F.ops m t Q) e (λ c none. independent c (λ j h. vec_mul-congr F s c R Q same j ∙ none j h))
 
   pub InSpan-congr : (s t : ℕ) (R Q : ℕ → ℕ → ℕ) (x : ℕ → ℕ) → s ≡ t → ((k : ℕ) → k < s → (j : ℕ) → R k j ≡ Q k j) → InSpan F.ops m s R x → InSpan F.ops m t Q x
   InSpan-congr s t R Q x e same is =
-      subst (λ t. InSpan F.ops m t Q x) e (is.0, λ j h. is.1 j h ∙ vec_mul-congr s is.0 R Q same j)
+      subst (λ t. InSpan F.ops m t Q x) e (is.0, λ j h. is.1 j h ∙ vec_mul-congr F s is.0 R Q same j)
 
   -- of independent rows none is a combination of those before it
   pub not_InSpan-of_Independent : (s k : ℕ) (R : ℕ → ℕ → ℕ) → Independent F.ops m s R → k < s → InSpan F.ops m k R (R k) → ⊥

@@ -57,10 +57,10 @@ no_pivots = record { count = 0; row = λ k. 0; column = λ k. 0; inverse = λ k 
 abbrev pub solution : Operations → (ℕ → ℕ) → Pivots → ℕ → ℕ
 solution K b S = place K S.count S.column (mul_vec K S.count S.inverse (λ l. b (S.row l)))
 
--- 1 at row i, −vB at the pivot rows, and 0 elsewhere
+-- 1 at row i, which is no pivot row, −vB at the pivot rows, and 0 elsewhere
 abbrev pub multipliers : Operations → (ℕ → ℕ → ℕ) → Pivots → ℕ → ℕ → ℕ
 multipliers K A S i = unit_minus K i S.count S.row (row_coefficients K A S i)
 
--- 1 at column j, −Ba at the pivot columns, and 0 elsewhere
+-- 1 at column j, which is no pivot column, −Ba at the pivot columns, and 0 elsewhere
 abbrev pub kernel_vector : Operations → (ℕ → ℕ → ℕ) → Pivots → ℕ → ℕ → ℕ
 kernel_vector K A S j = unit_minus K j S.count S.column (column_coefficients K A S j)

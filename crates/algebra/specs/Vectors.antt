@@ -31,11 +31,11 @@ rows_at A P k = A (P k)
 abbrev pub submatrix : (ℕ → ℕ → ℕ) → (ℕ → ℕ) → (ℕ → ℕ) → ℕ → ℕ → ℕ
 submatrix A P Q k l = A (P k) (Q l)
 
--- y 0, .. y (s − 1) at the places Q 0, .. Q (s − 1), which differ, and 0 at the others
+-- y 0, .. y (s − 1) at the places Q 0, .. Q (s − 1) and 0 at the others; what comes to the same place is added up
 abbrev pub place : Operations → ℕ → (ℕ → ℕ) → (ℕ → ℕ) → ℕ → ℕ
 place K s Q y j = Σ K s (λ k. K.times (y k) (δ (Q k) j))
 
--- 1 at place i, less what is placed
+-- 1 at place i, less what is placed so
 abbrev pub unit_minus : Operations → ℕ → ℕ → (ℕ → ℕ) → (ℕ → ℕ) → ℕ → ℕ
 unit_minus K i s Q y j = K.plus (δ i j) (K.negative (place K s Q y j))
 

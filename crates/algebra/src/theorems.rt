@@ -1,10 +1,7 @@
 //! The theorems, each demanded by the contract of a function that does nothing.
-ghost use Rattle.std.specs.Prelude.{◌≡◌, ◌≢◌, ℕ, ◌<◌};
-ghost use Rattle.algebra.specs.Places.{Outside};
-ghost use Rattle.algebra.specs.Vectors.{rows_at};
-ghost use Rattle.algebra.specs.Spans.{InSpan};
+ghost use Rattle.std.specs.Prelude.{ℕ};
 ghost use Rattle.algebra.specs.Pivots.{Pivots, PivotsOf};
-ghost use Rattle.algebra.specs.Theorems.{SumLaws, ProductLaws, SpanLaws, GrowthLaws, PivotLaws, SolutionLaws, NoSolution, UniquenessLaws, KernelLaws, EliminationLaws, ProfileLaws};
+ghost use Rattle.algebra.specs.Theorems.{SumLaws, ProductLaws, SpanLaws, GrowthLaws, PivotLaws, SchurLaws, SolutionLaws, NoSolution, UniquenessLaws, KernelLaws, EliminationLaws, ProfileLaws};
 
 use field::fields::Field;
 
@@ -15,7 +12,7 @@ pub fn sums_are_linear<F: Field>()
 {}
 
 // Combinations of combinations are combinations, and independent rows within the span of r rows are at most r.
-pub fn spans_hold_few<F: Field>()
+pub fn spans_bound_independent_rows<F: Field>()
     ensures { SpanLaws F.Field.ops }
 {}
 
@@ -26,8 +23,13 @@ pub fn pivots_grow<F: Field>()
 {}
 
 // Pivot rows are independent, and no more than the rank.
-pub fn pivots_are_independent<F: Field>()
+pub fn pivot_rows_are_independent<F: Field>()
     ensures { (n m : ℕ) (A : ℕ → ℕ → ℕ) (S : Pivots) → PivotsOf F.Field.ops n m A S → PivotLaws F.Field.ops n m A S }
+{}
+
+// The Schur complement tells which rows are combinations of the pivot rows.
+pub fn schur_complements_tell_spans<F: Field>()
+    ensures { (n m : ℕ) (A : ℕ → ℕ → ℕ) (S : Pivots) → PivotsOf F.Field.ops n m A S → SchurLaws F.Field.ops n m A S }
 {}
 
 // Pivots solve their rows, and for any other row give the combination that tells what is left of it.
@@ -40,16 +42,14 @@ pub fn contradictions_refute<F: Field>()
     ensures { NoSolution F.Field.ops }
 {}
 
-// Choices that satisfy all rows are equal where they agree outside the pivot columns.
-pub fn pivots_determine<F: Field>()
+// Choices that satisfy the pivot rows are equal if they agree outside the pivot columns.
+pub fn pivot_rows_determine_choices<F: Field>()
     ensures { (n m : ℕ) (A : ℕ → ℕ → ℕ) (S : Pivots) → PivotsOf F.Field.ops n m A S → UniquenessLaws F.Field.ops n m A S }
 {}
 
 // Where the pivot rows span all rows, every column but the pivots' is free.
 pub fn other_columns_are_free<F: Field>()
-    ensures { (n m : ℕ) (A : ℕ → ℕ → ℕ) (S : Pivots) → PivotsOf F.Field.ops n m A S →
-        ((i : ℕ) → i < n → InSpan F.Field.ops m S.count (rows_at A S.row) (A i)) →
-        (j : ℕ) → j < m → Outside S.count S.column j → KernelLaws F.Field.ops n m A S j }
+    ensures { (n m : ℕ) (A : ℕ → ℕ → ℕ) (S : Pivots) (j : ℕ) → PivotsOf F.Field.ops n m A S → KernelLaws F.Field.ops n m A S j }
 {}
 
 // An elimination may begin with nothing, pass over a row that the pivot rows give, and take any other as a pivot.

@@ -205,6 +205,7 @@ module _ (F : Lawful) where
   pub difference_zero : (a b : ℕ) → F.ops.plus a (F.ops.negative b) ≡ 0 → a % F.ops.q ≡ b % F.ops.q
   difference_zero a b e = negative_unique (F.ops.negative b) a (F.plus_comm (F.ops.negative b) a ∙ e) ∙ negative-negative b
 
+  -- and conversely
   pub zero_difference : (a b : ℕ) → a % F.ops.q ≡ b % F.ops.q → F.ops.plus a (F.ops.negative b) ≡ 0
   zero_difference a b e =
       sym (plus_left a (F.ops.negative b))

@@ -5,28 +5,28 @@ use Rattle.std.specs.Option.{unwrap_or}
 use Rattle.field.specs.Operations.{Operations, first_from, reciprocal, inverse}
 
 -- where a search ends with a number, that number passes, and is one of those searched
-pub found : (test : ℕ → Bool) (count from b : ℕ) → first_from test count from ≡ Some b → (test b ≡ true) × (b < from + count)
+pub first_from-some : (test : ℕ → Bool) (count from b : ℕ) → first_from test count from ≡ Some b → (test b ≡ true) × (b < from + count)
 unfolding first_from
-found test zero from b e = let z : ◌≡◌ {A = ℕ} 0 1 = cc in absurd (omega arith)
-found test (suc count) from b e =
+first_from-some test zero from b e = let z : ◌≡◌ {A = ℕ} 0 1 = cc in absurd (omega arith)
+first_from-some test (suc count) from b e =
     (elim (test from) as (λ t. test from ≡ t → elim t [ true ↦ Some from | false ↦ first_from test count (suc from) ] ≡ Some b → (test b ≡ true) × (b < from + suc count)) [
       | true ↦ λ p e. let same : from ≡ b = cc in (ap test (sym same) ∙ p, omega arith)
-      | false ↦ λ p e. let later = found test count (suc from) b e in (later.0, omega arith)
+      | false ↦ λ p e. let later = first_from-some test count (suc from) b e in (later.0, omega arith)
     ])
     refl
     e
 
 -- where it ends with none, no number that was searched passes
-pub missed : (test : ℕ → Bool) (count from b : ℕ) → first_from test count from ≡ None → from ≤ b → b < from + count → test b ≢ true
+pub first_from-none : (test : ℕ → Bool) (count from b : ℕ) → first_from test count from ≡ None → from ≤ b → b < from + count → test b ≢ true
 unfolding first_from
-missed test zero from b e l h p = omega arith
-missed test (suc count) from b e l h p =
+first_from-none test zero from b e l h p = omega arith
+first_from-none test (suc count) from b e l h p =
     (elim (test from) as (λ t. test from ≡ t → ◌≡◌ {A = Option ℕ} (elim t [ true ↦ Some from | false ↦ first_from test count (suc from) ]) None → ⊥) [
       | true ↦ λ f e. let z : ◌≡◌ {A = ℕ} 0 1 = cc in omega arith
       | false ↦ λ f e.
           elim (eq-or-lt_of_le l) [
             | inl same ↦ let z : true ≡ false = sym p ∙ ap test (sym same) ∙ f in let z : ◌≡◌ {A = ℕ} 0 1 = cc in omega arith
-            | inr less ↦ missed test count (suc from) b e less (omega arith) p
+            | inr less ↦ first_from-none test count (suc from) b e less (omega arith) p
           ]
     ])
     refl
@@ -35,11 +35,11 @@ missed test (suc count) from b e l h p =
 module _ (K : Operations) (a : ℕ) where
   pub some_times : (b : ℕ) → reciprocal K a ≡ Some b → (K.times a b ≡ 1) × (b < K.q)
   unfolding reciprocal
-  some_times b e = let f = found (λ b. nat_eq (K.times a b) 1) K.q 0 b e in (eqb-true (K.times a b) 1 f.0, omega (arith, f.1))
+  some_times b e = let f = first_from-some (λ b. nat_eq (K.times a b) 1) K.q 0 b e in (eqb-true (K.times a b) 1 f.0, omega (arith, f.1))
 
   pub none_times : reciprocal K a ≡ None → (b : ℕ) → b < K.q → K.times a b ≢ 1
   unfolding reciprocal
-  none_times e b h p = missed (λ b. nat_eq (K.times a b) 1) K.q 0 b e (omega arith) (omega arith) (eq-eqb (K.times a b) 1 p)
+  none_times e b h p = first_from-none (λ b. nat_eq (K.times a b) 1) K.q 0 b e (omega arith) (omega arith) (eq-eqb (K.times a b) 1 p)
 
   -- the two ways a reciprocal comes out
   pub ways : (P : Option ℕ → Type 0) → (reciprocal K a ≡ None → P None) → ((b : ℕ) → reciprocal K a ≡ Some b → P (Some b)) → P (reciprocal K a)

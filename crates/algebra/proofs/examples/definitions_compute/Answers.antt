@@ -8,4 +8,4 @@ use Rattle.algebra.proofs.examples.definitions_compute.Goals as goal
 
 pub returns : goal.returns
 unfolding first_from reciprocal inverse Σ δ with_row eliminate
-returns c = record { profile = refl; rank_two = refl; inverse = refl; all_blocks = refl; solution = refl; combination = refl; left = refl; kernel = refl }
+returns c = record { rank_two = refl; inverse = refl; all_blocks = refl; solution = refl; combination = refl; left = refl; kernel_vector = refl }

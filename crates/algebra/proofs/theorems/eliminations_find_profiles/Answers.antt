@@ -12,6 +12,6 @@ returns g c m A =
       stay = Elimination-stay F m A;
       grow = Elimination-grow F m A;
       run = eliminate-Elimination F m A;
-      profile = λ i S E. pivot_rows-RankProfile F m i A S E;
+      profile = λ i. pivot_rows-RankProfile F i m A;
       spans = InSpan-of_all_pivots F m A;
     }

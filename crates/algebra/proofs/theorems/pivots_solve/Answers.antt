@@ -10,13 +10,11 @@ pub returns : goal.returns
 returns g c n m A S I =
     let F = lawful g.F.Field.ops g.met.F.Field.laws in
     record {
-      solution_at = pivots.solution-at F n m A S I;
-      solution_elsewhere = λ b j none. place-elsewhere F S.count S.column (mul_vec F.ops S.count S.inverse (λ l. b (S.row l))) j none;
+      solution_at_pivots = pivots.solution-at F n m A S I;
+      solution_elsewhere = λ b. place-elsewhere F S.count S.column (mul_vec F.ops S.count S.inverse (λ l. b (S.row l)));
       solution_solves = pivots.solution-Solves F n m A S I;
-      multipliers_columns = pivots.vec_mul-multipliers F n m A S I;
-      schur_at_pivots = pivots.schur-pivot_column F n m A S I;
-      multipliers_sums = pivots.dot-multipliers F n m A S I;
       multipliers_own = λ i. unit_minus-own F i S.count S.row (row_coefficients F.ops A S i);
       multipliers_at_pivots = λ i. unit_minus-at F i S.count S.row (row_coefficients F.ops A S i) (pivots.pivot_rows-Distinct F n m A S I);
       multipliers_elsewhere = λ i. unit_minus-elsewhere F i S.count S.row (row_coefficients F.ops A S i);
+      multipliers_sums = pivots.dot-multipliers F n m A S I;
     }

@@ -15,7 +15,7 @@ returns g c =
         negative = λ n f. sym (negative-Σ F n f);
         exchange = Σ-comm F;
         one_place = Σ-δ F;
-        reads = Σ-congr_mod F;
+        remainders = Σ-congr_mod F;
       };
-      products = record { dot_comm = dot_comm F; mul_vec_linear = mul_vec-linear F; vec_mul_linear = vec_mul-linear F; assoc = dot-mul_vec F };
+      products = record { comm = dot_comm F; mul_vec_linear = mul_vec-linear F; vec_mul_linear = vec_mul-linear F; assoc = dot-mul_vec F };
     }
