@@ -1,9 +1,14 @@
 -- Searches below a bound, and numbers that differ. Assumes nothing.
-use Rattle.std.proofs.Common.{◌≡◌, ℕ, zero, suc, ◌<◌, ◌≤◌, ◌≢◌, ◌⊎◌, sym, refl, ap, ◌∙◌, inl, inr, arith}
-use Rattle.std.proofs.lemmas.Bool.{cases_eq}
+use Rattle.std.proofs.Common.{◌≡◌, ℕ, zero, suc, ◌<◌, ◌≤◌, ◌≢◌, ◌⊎◌, true, eqb, length, get_or, map, sym, refl, ap, ◌∙◌, inl, inr, arith}
+use Rattle.std.specs.List.{IsDistinct, list_any, range_with_len}
+use Rattle.std.proofs.lemmas.Bool.{cases_eq, eqb-true, ne_eqb}
+use Rattle.std.proofs.lemmas.List.FromFn.{length-map-range_with_len, get_or-map-range_with_len}
+use Rattle.std.proofs.lemmas.Map.Keys.{IsDistinct-from_apart}
+use Rattle.std.proofs.lemmas.Map.Steps.{length-le_from_distinct_below}
+use Rattle.std.proofs.lemmas.Map.Views.{Contains-from_any}
 use Rattle.algebra.specs.Places.{Below, Distinct, Among, Outside}
 use Rattle.algebra.specs.Vectors.{extend}
-use Rattle.algebra.proofs.Deltas.{extend-last, extend-other, extend-below, below-suc}
+use Rattle.algebra.proofs.Deltas.{extend-last, extend-below, below-suc}
 
 -- f takes the value j below s, or does not
 pub Among-or_Outside : (s : ℕ) (f : ℕ → ℕ) (j : ℕ) → Among s f j ⊎ Outside s f j
@@ -18,57 +23,30 @@ Among-or_Outside (suc s) f j =
           ]
     ]
 
--- where f k is r, the last value in its place leaves different numbers below r
-module _ (r s : ℕ) (f : ℕ → ℕ) (below : Below (suc s) f (suc r)) (differ : Distinct (suc s) f) (k : ℕ) (hk : k < suc s) (at : f k ≡ r) where
-  value : (l : ℕ) → ((l ≡ k) × (extend k f (f s) l ≡ f s)) ⊎ ((l ≢ k) × (extend k f (f s) l ≡ f l))
-  value l =
-      elim (cases_eq l k) [
-        | inl e ↦ inl (e, ap (extend k f (f s)) e ∙ extend-last k f (f s))
-        | inr n ↦ inr (n, extend-other k f (f s) l n)
-      ]
-
-  value-below : (l : ℕ) → l < s → extend k f (f s) l < r
-  value-below l h =
-      elim (value l) [
-        | inl v ↦
-            let apart : f s ≢ r = λ e. let same = differ s k (omega arith) hk (e ∙ sym at) in omega (arith, v.0) in
-            let most = below s (omega arith) in
-            omega (arith, v.1)
-        | inr v ↦
-            let apart : f l ≢ r = λ e. v.0 (differ l k (omega arith) hk (e ∙ sym at)) in
-            let most = below l (omega arith) in
-            omega (arith, v.1)
-      ]
-
-  value-distinct : (l h : ℕ) → l < s → h < s → extend k f (f s) l ≡ extend k f (f s) h → l ≡ h
-  value-distinct l h hl hh e =
-      elim (value l) [
-        | inl v ↦
-            elim (value h) [
-              | inl u ↦ v.0 ∙ sym u.0
-              | inr u ↦ let same = differ s h (omega arith) (omega arith) (sym v.1 ∙ e ∙ u.1) in absurd (omega arith)
-            ]
-        | inr v ↦
-            elim (value h) [
-              | inl u ↦ let same = differ s l (omega arith) (omega arith) (sym u.1 ∙ sym e ∙ v.1) in absurd (omega arith)
-              | inr u ↦ differ l h (omega arith) (omega arith) (sym v.1 ∙ e ∙ u.1)
-            ]
-      ]
+-- f 0, .. f (s − 1) as a list
+pub get_or-values : (s : ℕ) (f : ℕ → ℕ) (k d : ℕ) → k < s → get_or (map f (range_with_len 0 s)) k d ≡ f k
+get_or-values s f k d h = get_or-map-range_with_len f 0 s k k d h (omega arith)
 
 -- different numbers below r are at most r
 pub le-of_Distinct : (r s : ℕ) (f : ℕ → ℕ) → Below s f r → Distinct s f → s ≤ r
-le-of_Distinct zero zero f below differ = omega arith
-le-of_Distinct zero (suc s) f below differ = absurd (let h = below 0 (omega arith) in omega arith)
-le-of_Distinct (suc r) zero f below differ = omega arith
-le-of_Distinct (suc r) (suc s) f below differ =
-    elim (Among-or_Outside (suc s) f r) [
-      | inr none ↦
-          let most : suc s ≤ r = le-of_Distinct r (suc s) f (λ k h. let b = below k h in let n = none k h in omega arith) differ in
-          omega arith
-      | inl found ↦
-          let most : s ≤ r = le-of_Distinct r s (extend found.0 f (f s)) (value-below r s f below differ found.0 found.1 found.2) (value-distinct r s f below differ found.0 found.1 found.2) in
-          omega arith
-    ]
+le-of_Distinct r s f below differ =
+    let xs = map f (range_with_len 0 s) in
+    let long : length xs ≡ s = length-map-range_with_len f 0 s in
+    let distinct : IsDistinct eqb xs =
+    IsDistinct-from_apart eqb xs
+    (λ i j d less h.
+    let apart : f i ≢ f j = λ e. let same = differ i j (omega arith) (omega arith) e in omega arith in
+    ap (λ x. eqb x (get_or xs j d)) (get_or-values s f i d (omega arith)) ∙ ap (eqb (f i)) (get_or-values s f j d (omega arith)) ∙ ne_eqb (f i) (f j) apart) in
+    let within : (q : ℕ) → list_any (eqb q) xs ≡ true → q < r =
+    λ q e.
+    let there = Contains-from_any eqb-true q xs e in
+    let k = there.0 in
+    let h : k < length xs = there.1 in
+    let at : f k ≡ q = sym (get_or-values s f k q (omega arith)) ∙ there.2 in
+    let b = below k (omega arith) in
+    omega arith in
+    let most = length-le_from_distinct_below xs r distinct within in
+    omega arith
 
 -- one more number
 pub Below-extend : (s n : ℕ) (f : ℕ → ℕ) (j : ℕ) → Below s f n → j < n → Below (suc s) (extend s f j) n

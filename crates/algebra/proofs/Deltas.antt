@@ -1,6 +1,7 @@
 -- The entries of the identity matrix, and functions with one value more. Assumes nothing.
-use Rattle.std.proofs.Common.{◌≡◌, ℕ, suc, ◌<◌, ◌≢◌, sym, refl, ap, subst, ◌∙◌, inl, inr, arith}
+use Rattle.std.proofs.Common.{◌≡◌, ℕ, suc, ◌<◌, ◌≢◌, sym, refl, ap, ◌∙◌, inl, inr, arith}
 use Rattle.std.proofs.lemmas.Bool.{cases_eq, eq-eqb, ne_eqb}
+use borrow.Author.Count.{below_more}
 use Rattle.algebra.specs.Vectors.{δ, extend}
 
 pub δ-self : (k : ℕ) → δ k k ≡ 1
@@ -37,8 +38,4 @@ module _ {X : Type 0} (s : ℕ) (f : ℕ → X) (y : X) where
 
 -- below suc s: below s, or s
 pub below-suc : (P : ℕ → Type 0) (s : ℕ) → ((k : ℕ) → k < s → P k) → P s → (k : ℕ) → k < suc s → P k
-below-suc P s below last k h =
-    elim (cases_eq k s) [
-      | inl e ↦ subst P (sym e) last
-      | inr n ↦ below k (omega arith)
-    ]
+below-suc P s below last k h = below_more P s below last k (omega arith)

@@ -2,9 +2,12 @@
 use Rattle.std.proofs.Common.{◌≡◌, ◌≢◌, ℕ, zero, suc, ◌<◌, ◌≤◌, List, [], ◌∷◌, length, slice_index, Less, Equal, Greater, sym, refl, ap, ◌∙◌, inl, inr, arith}
 use Rattle.std.specs.List.{Contains}
 use Rattle.std.specs.List.Sorted.{IsStrictlyIncreasing}
-use Rattle.std.specs.Ordering.{nat_cmp, ordering_then}
+use Rattle.std.specs.Ordering.{nat_cmp, ordering_then, ordering_reverse, is_eq}
 use Rattle.std.specs.Cmp.{nat_cmp_is}
 use Rattle.std.specs.Cmp.Lexicographic.{slice_cmp}
+use Rattle.std.proofs.lemmas.Cmp.{nat_list_cmp_total}
+use Rattle.std.proofs.lemmas.Map.Text.{is_eq-slice_cmp}
+use Rattle.std.proofs.lemmas.Slice.Eq.{bytes_eq-Decides}
 use Rattle.std.proofs.lemmas.Bool.{cases_eq, cases_lt}
 use Rattle.std.proofs.lemmas.List.{get_or_default}
 use Rattle.std.proofs.lemmas.Map.Keys.{sorted_from_strictly_increasing, below_from_sorted}
@@ -26,23 +29,14 @@ not_Greater (x ∷ xs) (y ∷ ys) e least g =
     ]
 
 -- lists that are each not greater than the other are equal
-pub same-of_not_Greater : (xs ys : List ℕ) → length ys ≡ length xs → slice_cmp nat_cmp xs ys ≢ Greater → slice_cmp nat_cmp ys xs ≢ Greater → xs ≡ ys
-same-of_not_Greater [] [] e f g = refl
-same-of_not_Greater [] (y ∷ ys) e f g = absurd (omega arith)
-same-of_not_Greater (x ∷ xs) [] e f g = absurd (omega arith)
-same-of_not_Greater (x ∷ xs) (y ∷ ys) e f g =
-    elim (cases_eq x y) [
-      | inl same ↦
-          let rest = same-of_not_Greater xs ys (omega arith)
-          (λ h. f (sym (ap (λ o. ordering_then o (slice_cmp nat_cmp xs ys)) (nat_cmp_is x y Equal same)) ∙ h))
-          (λ h. g (sym (ap (λ o. ordering_then o (slice_cmp nat_cmp ys xs)) (nat_cmp_is y x Equal (sym same))) ∙ h)) in
-          ap (λ z. z ∷ xs) same ∙ ap (λ zs. y ∷ zs) rest
-      | inr n ↦
-          elim (cases_lt x y) [
-            | inl less ↦ absurd (g (sym (ap (λ o. ordering_then o (slice_cmp nat_cmp ys xs)) (nat_cmp_is y x Greater less))))
-            | inr more ↦ absurd (f (sym (ap (λ o. ordering_then o (slice_cmp nat_cmp xs ys)) (nat_cmp_is x y Greater (omega arith)))))
-          ]
-    ]
+pub same-of_not_Greater : (xs ys : List ℕ) → slice_cmp nat_cmp xs ys ≢ Greater → slice_cmp nat_cmp ys xs ≢ Greater → xs ≡ ys
+same-of_not_Greater xs ys f g =
+    (elim (slice_cmp nat_cmp xs ys) as (λ o. slice_cmp nat_cmp xs ys ≡ o → xs ≡ ys) [
+      | Less ↦ λ e. absurd (g (nat_list_cmp_total.antisymm ys xs ∙ ap ordering_reverse e))
+      | Equal ↦ λ e. (bytes_eq-Decides xs ys).0 (sym (is_eq-slice_cmp xs ys) ∙ ap is_eq e)
+      | Greater ↦ λ e. absurd (f e)
+    ])
+    refl
 
 -- a rising list whose elements are all in another: where they agree below k, the other goes on and is no greater at k
 no_later : (xs ys : List ℕ) → IsStrictlyIncreasing xs → IsStrictlyIncreasing ys → ((i : ℕ) → Contains xs i → Contains ys i) → (k : ℕ) → k < length xs → ((j : ℕ) → j < k → slice_index xs j ≡ slice_index ys j) → (k < length ys) × (slice_index ys k ≤ slice_index xs k)

@@ -3,12 +3,13 @@ use Rattle.std.proofs.Common.{◌≡◌, ◌≢◌, ℕ, ◌+◌, ◌<◌, ◌�
 use Rattle.std.specs.Ordering.{nat_cmp}
 use Rattle.std.specs.Cmp.Lexicographic.{slice_cmp}
 use Rattle.std.proofs.lemmas.Bool.{cases_eq, cases_lt}
-use Rattle.std.proofs.lemmas.List.FromFn.{length-map-range_with_len, get_or-map-range_with_len}
+use Rattle.std.proofs.lemmas.List.FromFn.{length-map-range_with_len}
 use Rattle.field.specs.Laws.{Lawful}
 use Rattle.algebra.specs.Vectors.{rows_at}
 use Rattle.algebra.specs.Spans.{InSpan}
 use Rattle.algebra.specs.Pivots.{Pivots, PivotsOf, schur, grow}
 use Rattle.algebra.specs.Profiles.{InProfile, RankProfile, IndependentRows, LeastLongest, Elimination, eliminate, pivot_rows, rank_profile, rank}
+use Rattle.algebra.proofs.Counting.{get_or-values}
 use Rattle.algebra.proofs.Spans.{InSpan-congr, Independent-congr, not_InSpan-of_Independent}
 use Rattle.algebra.proofs.Pivots.{pivot_rows-Independent, InSpan-of_schur}
 use Rattle.algebra.proofs.Growth.{grow-PivotsOf}
@@ -22,7 +23,7 @@ module _ (F : Lawful) (n m : ℕ) (A : ℕ → ℕ → ℕ) where
     long = length-map-range_with_len S.row 0 S.count
 
     at : (k d : ℕ) → k < S.count → get_or (pivot_rows S) k d ≡ S.row k
-    at k d h = get_or-map-range_with_len S.row 0 S.count k k d h (omega arith)
+    at = get_or-values S.count S.row
 
     -- the pivot rows of an elimination are the profile of the rows it has looked at
     pub pivot_rows-RankProfile : RankProfile F.ops n m A (pivot_rows S)
@@ -92,7 +93,7 @@ module _ (F : Lawful) (n m : ℕ) (A : ℕ → ℕ → ℕ) where
   LeastLongest-unique xs ys X Y =
       let some = Y.longest xs X.independent in
       let more = X.longest ys Y.independent in
-      same-of_not_Greater xs ys (omega arith) (X.least ys Y.independent (omega arith)) (Y.least xs X.independent (omega arith))
+      same-of_not_Greater xs ys (X.least ys Y.independent (omega arith)) (Y.least xs X.independent (omega arith))
 
   found : Elimination F.ops m A n (eliminate F.ops m A n)
   found = eliminate-Elimination F m A n
