@@ -5,9 +5,10 @@ use Rattle.field.proofs.FieldLemmas.{times_right}
 use Rattle.algebra.specs.Vectors.{mul_vec, vec_mul}
 use Rattle.algebra.specs.Spans.{Combination, InSpan, Independent}
 use Rattle.algebra.specs.Profiles.{eliminate}
+use Rattle.algebra.specs.Theorems.{SpanLaws}
 use Rattle.algebra.proofs.Sums.{Σ-congr, Σ-mod}
 use Rattle.algebra.proofs.Products.{dot-congr_mod, dot-mul_vec}
-use Rattle.algebra.proofs.Spans.{coefficients, InSpan-of_rows_at, not_InSpan-of_Independent}
+use Rattle.algebra.proofs.Spans.{coefficients, InSpan-self, InSpan-trans, InSpan-of_rows_at, not_InSpan-of_Independent}
 use Rattle.algebra.proofs.Pivots.{InSpan-of_schur, count-le_columns}
 use Rattle.algebra.proofs.Elimination.{with_row-ways, eliminate-Elimination}
 
@@ -49,3 +50,6 @@ module _ (F : Lawful) (m s r : ℕ) (X Y : ℕ → ℕ → ℕ) where
       let all = count-all independent C.0 C.1 s (omega arith) in
       let most = count-le_columns F s r C.0 (eliminate F.ops r C.0 s) (eliminate-Elimination F r C.0 s).pivots in
       omega arith
+
+pub span_laws : (F : Lawful) → SpanLaws F.ops
+span_laws F = record { own_row = InSpan-self F; trans = InSpan-trans F; independent = not_InSpan-of_Independent F; exchange = le-of_Independent F }

@@ -5,6 +5,7 @@ use Rattle.field.specs.Laws.{Lawful}
 use Rattle.field.proofs.FieldLemmas.{ring, plus-mod}
 use Rattle.algebra.specs.Vectors.{δ, dot, mul_vec, vec_mul, mat_mul, submatrix, extend, bordered, IsIdentity, Inverse}
 use Rattle.algebra.specs.Pivots.{Pivots, PivotsOf, Inverts, no_pivots, schur, grown, grow}
+use Rattle.algebra.specs.Theorems.{GrowthLaws}
 use Rattle.algebra.proofs.Deltas.{δ-self, δ-ne, δ-comm, extend-last, extend-below, below-suc}
 use Rattle.algebra.proofs.Counting.{Below-extend}
 use Rattle.algebra.proofs.Sums.{Σ-mod}
@@ -168,3 +169,6 @@ module _ (F : Lawful) (n m : ℕ) (A : ℕ → ℕ → ℕ) where
         columns_below = Below-extend S.count m S.column j I.columns_below hj;
         inverts = grow-Inverts F A S i j I.inverts some;
       }
+
+  pub growth_laws : GrowthLaws F.ops n m A
+  growth_laws = record { start = no_pivots-PivotsOf; grow = grow-PivotsOf }

@@ -7,9 +7,10 @@ use Rattle.algebra.specs.Places.{Distinct, Outside}
 use Rattle.algebra.specs.Vectors.{dot, mul_vec, vec_mul, submatrix, rows_at, place}
 use Rattle.algebra.specs.Spans.{Combination, InSpan, Independent, Solves, SolvesAll}
 use Rattle.algebra.specs.Pivots.{Pivots, PivotsOf, row_coefficients, column_coefficients, schur, solution, multipliers, kernel_vector}
+use Rattle.algebra.specs.Theorems.{PivotLaws, SchurLaws, SolutionLaws, UniquenessLaws, KernelLaws}
 use Rattle.algebra.proofs.Deltas.{δ-self, eq-of_δ}
 use Rattle.algebra.proofs.Counting.{Among-or_Outside, le-of_Distinct, Among-of_Distinct}
-use Rattle.algebra.proofs.Sums.{Σ-mod, Σ-place, place-at, place-elsewhere}
+use Rattle.algebra.proofs.Sums.{Σ-mod, Σ-place, place-at, place-elsewhere, unit_minus-own, unit_minus-at, unit_minus-elsewhere}
 use Rattle.algebra.proofs.Spans.{InSpan-self}
 use Rattle.algebra.proofs.Products.{dot_comm, dot-congr_mod, mul_vec-linear, mul_vec-minus, dot-mul_vec, dot-of_zero, dot-unit_minus, vec_mul-vec_mul_inverse, mul_vec-mul_vec_inverse}
 
@@ -174,3 +175,49 @@ module _ (F : Lawful) (n m : ℕ) (A : ℕ → ℕ → ℕ) (S : Pivots) (I : Pi
         ∙ ap (λ z. z ⊕ c ⊗ mul_vec F.ops m A (kernel_vector F.ops A S j) i) (xs i hi)
         ∙ ap (λ z. b i % q ⊕ c ⊗ z) (kernel_vector-null i hi)
         ∙ (simp ring)
+
+  -- the laws of these pivots
+  pub pivot_laws : PivotLaws F.ops n m A S
+  pivot_laws =
+      record {
+        independent = pivot_rows-Independent;
+        rows_differ = pivot_rows-Distinct;
+        columns_differ = pivot_columns-Distinct;
+        at_most_rows = count-le_rows;
+        at_most_columns = count-le_columns;
+      }
+
+  pub schur_laws : SchurLaws F.ops n m A S
+  schur_laws =
+      record {
+        pivot_column = schur-pivot_column;
+        pivot_row = schur-pivot_row;
+        combination = λ i. (λ is j h. schur-of_InSpan i j h is, InSpan-of_schur i);
+        multipliers = vec_mul-multipliers;
+        kernel_vector = λ i j. mul_vec-kernel_vector j i;
+      }
+
+  pub solution_laws : SolutionLaws F.ops n m A S
+  solution_laws =
+      record {
+        solution_at_pivots = solution-at;
+        solution_elsewhere = λ b. place-elsewhere F s Q (mul_vec F.ops s B (λ l. b (P l)));
+        solution_solves = solution-Solves;
+        multipliers_own = λ i. unit_minus-own F i s P (row_coefficients F.ops A S i);
+        multipliers_at_pivots = λ i. unit_minus-at F i s P (row_coefficients F.ops A S i) pivot_rows-Distinct;
+        multipliers_elsewhere = λ i. unit_minus-elsewhere F i s P (row_coefficients F.ops A S i);
+        multipliers_sums = dot-multipliers;
+      }
+
+  pub uniqueness_laws : UniquenessLaws F.ops n m A S
+  uniqueness_laws = record { determined = Solves-unique; unique = SolvesAll-unique }
+
+  pub kernel_laws : (j : ℕ) → KernelLaws F.ops n m A S j
+  kernel_laws j =
+      record {
+        own = unit_minus-own F j s Q (column_coefficients F.ops A S j);
+        at_pivots = unit_minus-at F j s Q (column_coefficients F.ops A S j) pivot_columns-Distinct;
+        elsewhere = unit_minus-elsewhere F j s Q (column_coefficients F.ops A S j);
+        kernel = λ spanned h. kernel_vector-null spanned j h;
+        free = λ spanned h. kernel_vector-free spanned j h;
+      }

@@ -5,6 +5,7 @@ use Rattle.field.specs.Sums.{Σ}
 use Rattle.field.proofs.FieldLemmas.{ring, times_left, times_zero_read, zero-mod-q, plus-mod}
 use Rattle.algebra.specs.Places.{Below}
 use Rattle.algebra.specs.Vectors.{δ, dot, place, unit_minus, mul_vec, vec_mul, mat_mul, IsIdentity}
+use Rattle.algebra.specs.Theorems.{ProductLaws}
 use Rattle.algebra.proofs.Deltas.{δ-comm}
 use Rattle.algebra.proofs.Sums.{Σ-suc, Σ-congr, Σ-plus, Σ-times, times-Σ, Σ-comm, Σ-δ, Σ-of_zero, Σ-place}
 
@@ -97,3 +98,6 @@ module _ (F : Lawful) where
       ∙ ap (λ x. x ⊕ negative 1 ⊗ dot F.ops n (place F.ops s P y) f) (dot_comm n (δ i) f ∙ Σ-δ F n i f h)
       ∙ ap (λ x. f i % q ⊕ negative 1 ⊗ x) (Σ-place F n s P y f below)
       ∙ (simp ring)
+
+  pub product_laws : ProductLaws F.ops
+  product_laws = record { comm = dot_comm; mul_vec_linear = mul_vec-linear; vec_mul_linear = vec_mul-linear; assoc = dot-mul_vec }

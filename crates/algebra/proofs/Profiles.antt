@@ -9,13 +9,14 @@ use Rattle.algebra.specs.Vectors.{rows_at}
 use Rattle.algebra.specs.Spans.{InSpan}
 use Rattle.algebra.specs.Pivots.{Pivots, PivotsOf, schur, grow}
 use Rattle.algebra.specs.Profiles.{InProfile, RankProfile, IndependentRows, LeastLongest, Elimination, eliminate, pivot_rows, rank_profile, rank}
+use Rattle.algebra.specs.Theorems.{RankLaws, EliminationLaws, ProfileLaws}
 use Rattle.algebra.proofs.Counting.{get_or-values}
 use Rattle.algebra.proofs.Spans.{InSpan-congr, Independent-congr, not_InSpan-of_Independent}
 use Rattle.algebra.proofs.Pivots.{pivot_rows-Independent, InSpan-of_schur}
 use Rattle.algebra.proofs.Growth.{grow-PivotsOf}
 use Rattle.algebra.proofs.Exchange.{le-of_Independent}
 use Rattle.algebra.proofs.Lists.{not_Greater, same-of_not_Greater, same-of_rising}
-use Rattle.algebra.proofs.Elimination.{InSpan-of_pivots, InSpan-of_all_pivots, InProfile-of_pivot, index-lt_of_row, eliminate-Elimination}
+use Rattle.algebra.proofs.Elimination.{Elimination-start, Elimination-stay, Elimination-grow, InSpan-of_pivots, InSpan-of_all_pivots, InProfile-of_pivot, index-lt_of_row, eliminate-Elimination}
 
 module _ (F : Lawful) (n m : ℕ) (A : ℕ → ℕ → ℕ) where
   module _ (S : Pivots) (E : Elimination F.ops m A n S) where
@@ -133,3 +134,27 @@ module _ (F : Lawful) (n m : ℕ) (A : ℕ → ℕ → ℕ) where
         | inl none ↦ none
         | inr some ↦ let more = count-le_rank (grow F.ops A S i j) (grow-PivotsOf F n m A S i j I h hj some) in absurd (omega arith)
       ])
+
+  pub rank_laws : (S : Pivots) → PivotsOf F.ops n m A S → RankLaws F.ops n m A S
+  rank_laws S I = record { at_most = count-le_rank S I; spanned = InSpan-of_rank S I }
+
+  pub profile_laws : ProfileLaws F.ops n m A
+  profile_laws =
+      record {
+        computed = rank_profile-RankProfile;
+        unique = RankProfile-unique;
+        least_longest = RankProfile-iff_LeastLongest;
+        spans = RankProfile-spans;
+        rank_length = RankProfile-length;
+      }
+
+pub elimination_laws : (F : Lawful) (m : ℕ) (A : ℕ → ℕ → ℕ) → EliminationLaws F.ops m A
+elimination_laws F m A =
+    record {
+      start = Elimination-start F m A;
+      stay = Elimination-stay F m A;
+      grow = Elimination-grow F m A;
+      run = eliminate-Elimination F m A;
+      profile = λ i. pivot_rows-RankProfile F i m A;
+      spans = InSpan-of_all_pivots F m A;
+    }

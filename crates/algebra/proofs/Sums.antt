@@ -6,6 +6,7 @@ use Rattle.field.specs.Sums.{Σ}
 use Rattle.field.proofs.FieldLemmas.{ring, plus_right, times_right, times-zero, zero-mod-q}
 use Rattle.algebra.specs.Places.{Below, Distinct, Outside}
 use Rattle.algebra.specs.Vectors.{δ, place, unit_minus}
+use Rattle.algebra.specs.Theorems.{SumLaws}
 use Rattle.algebra.proofs.Deltas.{δ-self, δ-ne}
 
 module _ (F : Lawful) where
@@ -127,3 +128,14 @@ module _ (F : Lawful) where
 
   pub unit_minus-elsewhere : (i s : ℕ) (Q y : ℕ → ℕ) (j : ℕ) → i ≢ j → Outside s Q j → unit_minus F.ops i s Q y j ≡ 0
   unit_minus-elsewhere i s Q y j other none = ap (λ x. x ⊕ negative (place F.ops s Q y j)) (δ-ne i j other) ∙ ap (λ x. 0 ⊕ negative x) (place-elsewhere s Q y j none) ∙ (simp ring)
+
+  pub sum_laws : SumLaws F.ops
+  sum_laws =
+      record {
+        plus = Σ-plus;
+        times = λ n a f. sym (times-Σ n a f);
+        negative = λ n f. sym (negative-Σ n f);
+        exchange = Σ-comm;
+        one_place = Σ-δ;
+        remainders = Σ-congr_mod;
+      }

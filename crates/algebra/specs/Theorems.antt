@@ -37,14 +37,18 @@ pub record GrowthLaws (K : Operations) (n m : ℕ) (A : ℕ → ℕ → ℕ) : T
   pub start : PivotsOf K n m A no_pivots
   pub grow : (S : Pivots) (i j : ℕ) → PivotsOf K n m A S → i < n → j < m → schur K A S i j ≢ 0 → PivotsOf K n m A (grow K A S i j)
 
--- pivot rows are independent; pivot rows differ, and so do pivot columns; there are no more than rows, than columns, and than the rank
+-- pivot rows are independent; pivot rows differ, and so do pivot columns; there are no more than rows and than columns
 pub record PivotLaws (K : Operations) (n m : ℕ) (A : ℕ → ℕ → ℕ) (S : Pivots) : Type 0 where
   pub independent : Independent K m S.count (rows_at A S.row)
   pub rows_differ : Distinct S.count S.row
   pub columns_differ : Distinct S.count S.column
   pub at_most_rows : S.count ≤ n
   pub at_most_columns : S.count ≤ m
-  pub at_most_rank : S.count ≤ rank K n m A
+
+-- there are no more than the rank, and where there are as many they span all rows
+pub record RankLaws (K : Operations) (n m : ℕ) (A : ℕ → ℕ → ℕ) (S : Pivots) : Type 0 where
+  pub at_most : S.count ≤ rank K n m A
+  pub spanned : S.count ≡ rank K n m A → (i : ℕ) → i < n → InSpan K m S.count (rows_at A S.row) (A i)
 
 -- the Schur complement: 0 at pivot columns and in pivot rows, and in all of another row just where that is a combination of them
 pub record SchurLaws (K : Operations) (n m : ℕ) (A : ℕ → ℕ → ℕ) (S : Pivots) : Type 0 where
@@ -54,8 +58,6 @@ pub record SchurLaws (K : Operations) (n m : ℕ) (A : ℕ → ℕ → ℕ) (S :
   -- it is what the multipliers of row i make of column j, and what row i makes of the vector for column j
   pub multipliers : (i j : ℕ) → i < n → vec_mul K n (multipliers K A S i) A j ≡ schur K A S i j
   pub kernel_vector : (i j : ℕ) → j < m → mul_vec K m A (kernel_vector K A S j) i ≡ schur K A S i j
-  -- with as many pivots as the rank it is 0 everywhere
-  pub spanned : S.count ≡ rank K n m A → (i : ℕ) → i < n → InSpan K m S.count (rows_at A S.row) (A i)
 
 -- what pivots solve
 pub record SolutionLaws (K : Operations) (n m : ℕ) (A : ℕ → ℕ → ℕ) (S : Pivots) : Type 0 where

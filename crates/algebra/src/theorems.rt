@@ -1,7 +1,7 @@
 //! The theorems, each demanded by the contract of a function that does nothing.
 ghost use Rattle.std.specs.Prelude.{ℕ};
 ghost use Rattle.algebra.specs.Pivots.{Pivots, PivotsOf};
-ghost use Rattle.algebra.specs.Theorems.{SumLaws, ProductLaws, SpanLaws, GrowthLaws, PivotLaws, SchurLaws, SolutionLaws, NoSolution, UniquenessLaws, KernelLaws, EliminationLaws, ProfileLaws};
+ghost use Rattle.algebra.specs.Theorems.{SumLaws, ProductLaws, SpanLaws, GrowthLaws, PivotLaws, RankLaws, SchurLaws, SolutionLaws, NoSolution, UniquenessLaws, KernelLaws, EliminationLaws, ProfileLaws};
 
 use field::fields::Field;
 
@@ -24,7 +24,8 @@ pub fn pivots_grow<F: Field>()
 
 // Pivot rows are independent, and no more than the rank.
 pub fn pivot_rows_are_independent<F: Field>()
-    ensures { (n m : ℕ) (A : ℕ → ℕ → ℕ) (S : Pivots) → PivotsOf F.Field.ops n m A S → PivotLaws F.Field.ops n m A S }
+    ensures pivots { (n m : ℕ) (A : ℕ → ℕ → ℕ) (S : Pivots) → PivotsOf F.Field.ops n m A S → PivotLaws F.Field.ops n m A S }
+    ensures rank { (n m : ℕ) (A : ℕ → ℕ → ℕ) (S : Pivots) → PivotsOf F.Field.ops n m A S → RankLaws F.Field.ops n m A S }
 {}
 
 // The Schur complement tells which rows are combinations of the pivot rows.
@@ -49,7 +50,7 @@ pub fn pivot_rows_determine_choices<F: Field>()
 
 // Where the pivot rows span all rows, every column but the pivots' is free.
 pub fn other_columns_are_free<F: Field>()
-    ensures { (n m : ℕ) (A : ℕ → ℕ → ℕ) (S : Pivots) (j : ℕ) → PivotsOf F.Field.ops n m A S → KernelLaws F.Field.ops n m A S j }
+    ensures { (n m : ℕ) (A : ℕ → ℕ → ℕ) (S : Pivots) → PivotsOf F.Field.ops n m A S → (j : ℕ) → KernelLaws F.Field.ops n m A S j }
 {}
 
 // An elimination may begin with nothing, pass over a row that the pivot rows give, and take any other as a pivot.

@@ -1,6 +1,6 @@
 -- From the laws of the bound. Assumes nothing.
-use Rattle.algebra.proofs.Systems.{no_solution}
 use Rattle.field.specs.LawsForAll.{lawful}
+use Rattle.algebra.proofs.Systems.{no_solution}
 use Rattle.algebra.proofs.theorems.contradictions_refute.Goals as goal
 
 pub returns : goal.returns
