@@ -1,0 +1,4 @@
+pub mod AddedRows
+pub mod Searches
+pub mod Values
+pub mod Judging

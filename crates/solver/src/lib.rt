@@ -1,0 +1,7 @@
+//! The oracle solver over any rows, for any field and any scout.
+#![tactic(auto)]
+
+pub mod lies;
+pub mod questions;
+pub mod scouts;
+mod vectors;

@@ -1,0 +1,61 @@
+//! Vectors of a field's numbers in slices.
+ghost use Rattle.std.specs.Prelude.{◌≡◌, ◌<◌, min, length, slice_index};
+ghost use Rattle.field.specs.Slices.{Filled};
+ghost use Rattle.rows.specs.Values.{entry};
+ghost use Rattle.algebra.specs.Vectors.{dot};
+ghost use Rattle.solver.specs.Slices.{Codes, Holds};
+
+use field::fields::Field;
+use rows::reading::Rows;
+use rows::sizes::MOST_MINUTES;
+use rows::terms::terms;
+
+// As many zeros.
+pub fn zeros<const N: usize>() -> [u16; N]
+    ensures { Holds N (λ _. 0) result }
+{
+    [0; N]
+}
+
+// x · y, over the places that both have.
+pub fn dot<F: Field>(x: &[u16], y: &[u16]) -> u16
+    ensures { result ≡ dot F.Field.ops (min (length x.now) (length y.now)) (slice_index x.now) (slice_index y.now) }
+{
+    let count = x.len().min(y.len());
+    let mut total = 0;
+    for k in 0..count {
+        total = F::plus(total, F::times(x[k], y[k]));
+    }
+    total
+}
+
+// Adds a multiple of y to x, at the places that both have.
+pub fn add_multiple<F: Field>(x: &mut [u16], factor: u16, y: &[u16])
+    ensures { Filled (min (length x.old) (length y.now)) (λ k. F.Field.ops.plus (slice_index x.old k) (F.Field.ops.times factor (slice_index y.now k))) x.old x.new }
+{
+    let count = x.len().min(y.len());
+    for k in 0..count {
+        x[k] = F::plus(x[k], F::times(factor, y[k]));
+    }
+}
+
+// Adds a multiple of a row's weights to values, one for each minute. The row is read once, and not at all for 0 times it.
+pub fn add_row<F: Field, R: Rows>(
+    values: &mut [u16; MOST_MINUTES],
+    factor: u16,
+    rows: &R,
+    row: usize,
+)
+    requires { Codes F.Field.ops.q values.old }
+    ensures { Filled 64 (λ c. F.Field.ops.plus (slice_index values.old c) (F.Field.ops.times factor (entry F.Field.ops (R.Rows.system rows.now) row c))) values.old values.new }
+{
+    if factor == 0 {
+        return;
+    }
+    if let Some(terms) = terms(rows, row) {
+        for term in terms {
+            let value = &mut values[usize::from(term.minute)];
+            *value = F::plus(*value, F::times(factor, term.weight));
+        }
+    }
+}
