@@ -2,3 +2,8 @@ pub mod AddedRows
 pub mod Searches
 pub mod Values
 pub mod Judging
+pub mod Filling
+pub mod Kernels
+pub mod Placing
+pub mod Readings
+pub mod Steps

@@ -1,2 +1,4 @@
 pub mod Slices
 pub mod Questions
+pub mod Pivots
+pub mod Spaces

@@ -2,6 +2,7 @@
 #![tactic(auto)]
 
 pub mod lies;
+mod pivots;
 pub mod questions;
 pub mod scouts;
 mod vectors;

@@ -1,14 +1,15 @@
 //! Vectors of a field's numbers in slices.
-ghost use Rattle.std.specs.Prelude.{◌≡◌, ◌<◌, min, length, slice_index};
+ghost use Rattle.std.specs.Prelude.{◌≡◌, ℕ, ◌<◌, ◌≤◌, min, length, slice_index};
 ghost use Rattle.field.specs.Slices.{Filled};
 ghost use Rattle.rows.specs.Values.{entry};
 ghost use Rattle.algebra.specs.Vectors.{dot};
-ghost use Rattle.solver.specs.Slices.{Codes, Holds};
+ghost use Rattle.solver.specs.Slices.{Codes, Holds, Placed};
 
 use field::fields::Field;
 use rows::reading::Rows;
 use rows::sizes::MOST_MINUTES;
 use rows::terms::terms;
+use rows::values::entry;
 
 // As many zeros.
 pub fn zeros<const N: usize>() -> [u16; N]
@@ -39,6 +40,16 @@ pub fn add_multiple<F: Field>(x: &mut [u16], factor: u16, y: &[u16])
     }
 }
 
+// Writes the negatives of a multiple of y into x, at the places that both have.
+pub fn write_negatives<F: Field>(x: &mut [u16], factor: u16, y: &[u16])
+    ensures { Filled (min (length x.old) (length y.now)) (λ k. F.Field.ops.negative (F.Field.ops.times factor (slice_index y.now k))) x.old x.new }
+{
+    let count = x.len().min(y.len());
+    for k in 0..count {
+        x[k] = F::negative(F::times(factor, y[k]));
+    }
+}
+
 // Adds a multiple of a row's weights to values, one for each minute. The row is read once, and not at all for 0 times it.
 pub fn add_row<F: Field, R: Rows>(
     values: &mut [u16; MOST_MINUTES],
@@ -58,4 +69,44 @@ pub fn add_row<F: Field, R: Rows>(
             *value = F::plus(*value, F::times(factor, term.weight));
         }
     }
+}
+
+// A row's weights, at each minute.
+pub fn row_weights<F: Field, R: Rows>(rows: &R, row: usize) -> [u16; MOST_MINUTES]
+    ensures { Holds 64 (entry F.Field.ops (R.Rows.system rows.now) row) result }
+{
+    let mut weights = zeros();
+    add_row::<F, R>(&mut weights, 1, rows, row);
+    weights
+}
+
+// A row's weight at a minute, 0 where there is none.
+pub fn weight_at<F: Field, R: Rows>(rows: &R, row: usize, minute: usize) -> u16
+    ensures { result ≡ entry F.Field.ops (R.Rows.system rows.now) row minute }
+{
+    entry::<F, R>(rows, row, minute).unwrap_or(0)
+}
+
+// The negatives of a vector's numbers.
+pub fn negated<F: Field>(v: &[u16; MOST_MINUTES]) -> [u16; MOST_MINUTES]
+    ensures { Holds 64 (λ k. F.Field.ops.negative (slice_index v.now k)) result }
+{
+    let mut negatives = zeros();
+    for k in 0..MOST_MINUTES {
+        negatives[k] = F::negative(v[k]);
+    }
+    negatives
+}
+
+// Values at places, and 0 elsewhere.
+pub fn placed<const N: usize>(places: &[u16], values: &[u16; MOST_MINUTES]) -> [u16; N]
+    requires { (length places.now ≤ 64) × ((k : ℕ) → k < length places.now → slice_index places.now k < N) }
+    ensures long { length result ≡ N }
+    ensures placed { Placed (length places.now) (slice_index places.now) (slice_index values.now) result }
+{
+    let mut vector = zeros();
+    for k in 0..places.len() {
+        vector[usize::from(places[k])] = values[k];
+    }
+    vector
 }

@@ -1,0 +1,14 @@
+-- The pivots that a space holds. Assumes nothing.
+use Rattle.std.specs.Prelude.{◌≡◌}
+use Rattle.algebra.specs.Pivots.{Pivots}
+use Rattle.solver.specs.declared.pivots.PivotSpace.{PivotSpace}
+use Rattle.solver.specs.Pivots.{pivots_in}
+
+abbrev pub pivots_of : PivotSpace → Pivots
+pivots_of s = pivots_in s.count s.rows.now s.columns.now s.inverse.now
+
+-- it holds the same places, and maybe another inverse
+pub record SamePlaces (s t : PivotSpace) : Type 0 where
+  pub count : t.count ≡ s.count
+  pub rows : t.rows.now ≡ s.rows.now
+  pub columns : t.columns.now ≡ s.columns.now
