@@ -7,3 +7,7 @@ pub mod Kernels
 pub mod Placing
 pub mod Readings
 pub mod Steps
+pub mod Matrix
+pub mod Same
+pub mod Asking
+pub mod Puts

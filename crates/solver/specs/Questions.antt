@@ -57,17 +57,6 @@ Tells K S q a (Missed i) = (a ≡ None) × (first_place K S q ≡ Some i)
 Tells K S q a (Zero i) = (a ≡ Some i) × (i < place_count S q) × (value_at K S q i ≡ 0)
 Tells K S q a (Outside i) = (a ≡ Some i) × (place_count S q ≤ i)
 
--- each case's number and its place
-abbrev pub lie_kind : Lie → ℕ
-lie_kind (Missed i) = 1
-lie_kind (Zero i) = 2
-lie_kind (Outside i) = 3
-
-abbrev pub lie_place : Lie → ℕ
-lie_place (Missed i) = i
-lie_place (Zero i) = i
-lie_place (Outside i) = i
-
 -- none as an answer tested, by the first place whose value is not 0
 abbrev pub none_tested : Option ℕ → Result (Option ℕ) Lie
 none_tested None = Ok None

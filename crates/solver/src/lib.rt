@@ -1,8 +1,11 @@
 //! The oracle solver over any rows, for any field and any scout.
 #![tactic(auto)]
 
+pub mod findings;
 pub mod lies;
+pub mod outcomes;
 mod pivots;
 pub mod questions;
+mod runs;
 pub mod scouts;
 mod vectors;

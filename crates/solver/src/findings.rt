@@ -1,0 +1,42 @@
+//! What a run finds.
+ghost use Rattle.std.specs.Prelude.{◌≡◌, ◌≤◌, length, slice_index};
+ghost use Rattle.field.specs.Slices.{Filled};
+
+use crate::vectors::zeros;
+use rows::sizes::{MOST_MINUTES, MOST_ROWS};
+
+// What runs have found: the minutes of the last one that was solved, and of the last contradiction a number for each row,
+// which times the rows add up to an impossible one. A row is blamed where that is not 0.
+#[derive(Clone, Copy)]
+pub struct Findings {
+    pub minutes: [u16; MOST_MINUTES],
+    pub blame: [u16; MOST_ROWS],
+}
+
+impl Findings {
+    // All 0.
+    pub fn new() -> Findings {
+        Findings {
+            minutes: zeros(),
+            blame: zeros(),
+        }
+    }
+
+    // Writes the minutes of a solved run.
+    pub fn write_minutes(&mut self, x: &[u16])
+        requires { length x.now ≤ 64 }
+        ensures minutes { Filled (length x.now) (slice_index x.now) self.old.minutes self.new.minutes }
+        ensures blame { self.new.blame ≡ self.old.blame }
+    {
+        self.minutes[..x.len()].copy_from_slice(x);
+    }
+
+    // Writes the multipliers of a contradiction.
+    pub fn write_blame(&mut self, u: &[u16])
+        requires { length u.now ≤ 96 }
+        ensures minutes { self.new.minutes ≡ self.old.minutes }
+        ensures blame { Filled (length u.now) (slice_index u.now) self.old.blame self.new.blame }
+    {
+        self.blame[..u.len()].copy_from_slice(u);
+    }
+}
