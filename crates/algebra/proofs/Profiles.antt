@@ -19,39 +19,41 @@ use Rattle.algebra.proofs.Lists.{not_Greater, same-of_not_Greater, same-of_risin
 use Rattle.algebra.proofs.Elimination.{Elimination-start, Elimination-stay, Elimination-grow, InSpan-of_pivots, InSpan-of_all_pivots, InProfile-of_pivot, index-lt_of_row, eliminate-Elimination}
 
 module _ (F : Lawful) (n m : ℕ) (A : ℕ → ℕ → ℕ) where
-  module _ (S : Pivots) (E : Elimination F.ops m A n S) where
-    long : length (pivot_rows S) ≡ S.count
-    long = length-map-range_with_len S.row 0 S.count
+  module _ (S : Pivots) where
+    pub pivot_rows-length : length (pivot_rows S) ≡ S.count
+    pivot_rows-length = length-map-range_with_len S.row 0 S.count
 
     at : (k d : ℕ) → k < S.count → get_or (pivot_rows S) k d ≡ S.row k
     at = get_or-values S.count S.row
 
+    -- pivot rows, as a list, are independent rows
+    pub pivot_rows-IndependentRows : PivotsOf F.ops n m A S → IndependentRows F.ops n m A (pivot_rows S)
+    pivot_rows-IndependentRows I =
+        record {
+          below = λ k d h. let l = pivot_rows-length in let a = at k d (omega arith) in let b = I.rows_below k (omega arith) in omega arith;
+          independent =
+              Independent-congr F m S.count (length (pivot_rows S)) (rows_at A S.row) (rows_at A (slice_index (pivot_rows S))) (sym pivot_rows-length)
+              (λ k h j. ap (λ r. A r j) (sym (at k 0 h)))
+              (pivot_rows-Independent F n m A S I);
+        }
+
+  module _ (S : Pivots) (E : Elimination F.ops m A n S) where
     -- the pivot rows of an elimination are the profile of the rows it has looked at
     pub pivot_rows-RankProfile : RankProfile F.ops n m A (pivot_rows S)
     pivot_rows-RankProfile =
         record {
-          rising = λ k h. let l = long in let a = at k 0 (omega arith) in let b = at (k + 1) 0 (omega arith) in let r = E.rising k (k + 1) (omega arith) (omega arith) in omega arith;
+          rising = λ k h. let l = pivot_rows-length S in let a = at S k 0 (omega arith) in let b = at S (k + 1) 0 (omega arith) in let r = E.rising k (k + 1) (omega arith) (omega arith) in omega arith;
           members = λ i. (
             λ is.
-                let l = long in
-                let e = sym (at is.0 i (omega (arith, is.1))) ∙ is.2 in
+                let l = pivot_rows-length S in
+                let e = sym (at S is.0 i (omega (arith, is.1))) ∙ is.2 in
                 subst (λ r. (r < n) × InProfile F.ops m A r) e (E.pivots.rows_below is.0 (omega (arith, is.1)), InProfile-of_pivot F m A n S E is.0 (omega (arith, is.1))),
             λ new.
                 elim (E.others i new.0) [
-                  | inl pivot ↦ (pivot.0, (let l = long in omega (arith, pivot.1)), at pivot.0 i pivot.1 ∙ pivot.2)
+                  | inl pivot ↦ (pivot.0, (let l = pivot_rows-length S in omega (arith, pivot.1)), at S pivot.0 i pivot.1 ∙ pivot.2)
                   | inr is ↦ absurd (new.1 is)
                 ],
           );
-        }
-
-    pivot_rows-IndependentRows : IndependentRows F.ops n m A (pivot_rows S)
-    pivot_rows-IndependentRows =
-        record {
-          below = λ k d h. let l = long in let a = at k d (omega arith) in let b = E.pivots.rows_below k (omega arith) in omega arith;
-          independent =
-              Independent-congr F m S.count (length (pivot_rows S)) (rows_at A S.row) (rows_at A (slice_index (pivot_rows S))) (sym long)
-              (λ k h j. ap (λ r. A r j) (sym (at k 0 h)))
-              (pivot_rows-Independent F n m A S E.pivots);
         }
 
     module _ (ys : List ℕ) (I : IndependentRows F.ops n m A ys) where
@@ -63,15 +65,15 @@ module _ (F : Lawful) (n m : ℕ) (A : ℕ → ℕ → ℕ) where
       least e =
           not_Greater (pivot_rows S) ys e
           (λ k h agree.
-          let l = long in
-          let a = at k 0 (omega arith) in
+          let l = pivot_rows-length S in
+          let a = at S k 0 (omega arith) in
           elim (cases_lt (slice_index ys k) (S.row k)) [
             | inr more ↦ omega arith
             | inl less ↦
                 absurd
                 (not_InSpan-of_Independent F m (length ys) k (rows_at A (slice_index ys)) I.independent (omega arith)
                 (InSpan-congr F m k k (rows_at A S.row) (rows_at A (slice_index ys)) (A (slice_index ys k)) refl
-                (λ j hj c. ap (λ r. A r c) (sym (at j 0 (omega arith)) ∙ agree j hj))
+                (λ j hj c. ap (λ r. A r c) (sym (at S j 0 (omega arith)) ∙ agree j hj))
                 (InSpan-of_pivots F m A n S E k (S.row k) (omega arith) (let b = E.pivots.rows_below k (omega arith) in omega arith)
                 (λ i hi less. index-lt_of_row F m A n S E k i (omega arith) hi less) (slice_index ys k) less)))
           ])
@@ -79,8 +81,8 @@ module _ (F : Lawful) (n m : ℕ) (A : ℕ → ℕ → ℕ) where
     pub pivot_rows-LeastLongest : LeastLongest F.ops n m A (pivot_rows S)
     pivot_rows-LeastLongest =
         record {
-          independent = pivot_rows-IndependentRows;
-          longest = λ ys I. let l = long in let h = most ys I in omega arith;
+          independent = pivot_rows-IndependentRows S E.pivots;
+          longest = λ ys I. let l = pivot_rows-length S in let h = most ys I in omega arith;
           least = least;
         }
 
@@ -111,13 +113,13 @@ module _ (F : Lawful) (n m : ℕ) (A : ℕ → ℕ → ℕ) where
       )
 
   pub RankProfile-length : (xs : List ℕ) → RankProfile F.ops n m A xs → length xs ≡ rank F.ops n m A
-  RankProfile-length xs X = ap length (RankProfile-unique xs (rank_profile F.ops n m A) X rank_profile-RankProfile) ∙ long (eliminate F.ops m A n) found
+  RankProfile-length xs X = ap length (RankProfile-unique xs (rank_profile F.ops n m A) X rank_profile-RankProfile) ∙ pivot_rows-length (eliminate F.ops m A n)
 
   pub RankProfile-spans : (xs : List ℕ) → RankProfile F.ops n m A xs → (r : ℕ) → r < n → InSpan F.ops m (length xs) (rows_at A (slice_index xs)) (A r)
   RankProfile-spans xs X r h =
       let S = eliminate F.ops m A n in
       subst (λ xs. InSpan F.ops m (length xs) (rows_at A (slice_index xs)) (A r)) (RankProfile-unique (pivot_rows S) xs rank_profile-RankProfile X)
-      (InSpan-congr F m S.count (length (pivot_rows S)) (rows_at A S.row) (rows_at A (slice_index (pivot_rows S))) (A r) (sym (long S found)) (λ k hk j. ap (λ r. A r j) (sym (at S found k 0 hk))) (InSpan-of_all_pivots F m A n S found r h))
+      (InSpan-congr F m S.count (length (pivot_rows S)) (rows_at A S.row) (rows_at A (slice_index (pivot_rows S))) (A r) (sym (pivot_rows-length S)) (λ k hk j. ap (λ r. A r j) (sym (at S k 0 hk))) (InSpan-of_all_pivots F m A n S found r h))
 
   -- pivots are at most the rank, and where they are as many they span all rows
   pub count-le_rank : (S : Pivots) → PivotsOf F.ops n m A S → S.count ≤ rank F.ops n m A

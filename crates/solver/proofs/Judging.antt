@@ -5,7 +5,7 @@ use Rattle.field.specs.Operations.{Operations}
 use Rattle.field.specs.Reciprocals.{first_from-some, first_from-none}
 use Rattle.rows.specs.Systems.{System}
 use Rattle.solver.specs.declared.lies.Lie.TheVariants.{Zero}
-use Rattle.solver.specs.Questions.{Asked, place_count, value_at, value_of, first_place, none_tested, place_tested, Judges}
+use Rattle.solver.specs.Questions.{Asked, place_count, value_at, value_of, first_place, none_tested, place_tested, tested, TrueAnswer, FalseAnswer, Judges}
 
 module _ (K : Operations) (S : System) (q : Asked) where
   abbrev n : ℕ
@@ -44,3 +44,8 @@ module _ (K : Operations) (S : System) (q : Asked) where
         | inl h ↦ rw (lt-ltb i n h) (judged_value i h)
         | inr past ↦ rw (le-ltb i n past) ((refl, past), inl past)
       ]
+
+  -- every answer is judged
+  pub judges : (a : Option ℕ) → Judges K S q a (tested K S q a)
+  judges None = judged_none None (first_place K S q) refl refl
+  judges (Some i) = judged_place i

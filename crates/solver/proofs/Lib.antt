@@ -11,3 +11,6 @@ pub mod Matrix
 pub mod Same
 pub mod Asking
 pub mod Puts
+pub mod Running
+pub mod RunLaws
+pub mod Completing

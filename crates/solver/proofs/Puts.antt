@@ -27,19 +27,19 @@ module _ {X : Type 0} (K : Operations) (S : System) (answer : X → System → A
 
   module _ (number : ℕ) (counted : number ≡ suc (length asked)) where
     -- what is judged of an answer, by what the test let through
-    judged_err : (t : Result (Option ℕ) Lie) (o : Outcome) → Err o ≡ failed_or number q t → (judged K S (state P row asked) now t ≡ end o) × (f' ≡ f → Writes o now f f')
+    judged_err : (t : Result (Option ℕ) Lie) (o : Outcome) → Err o ≡ failed_or number q t → (judged K S P row q now t ≡ end o) × (f' ≡ f → Writes o now f f')
     judged_err (Err lie) o e =
         let failed = λ (n : ℕ). Failed (record { question = n; side = side q; lie = lie }) in
         let same : failed number ≡ o = cc in
         (ap end (ap failed (sym counted) ∙ same), λ kept. subst (λ o. Writes o now f f') same kept)
     judged_err (Ok b) o e = absurd (err_ok o b e)
 
-    judged_none : (t : Result (Option ℕ) Lie) → Ok None ≡ failed_or number q t → judged K S (state P row asked) now t ≡ end (ending P row now)
+    judged_none : (t : Result (Option ℕ) Lie) → Ok None ≡ failed_or number q t → judged K S P row q now t ≡ end (ending P row now)
     judged_none (Err lie) e = absurd (err_ok (Failed (record { question = number; side = side q; lie = lie })) None (sym e))
     judged_none (Ok None) e = refl
     judged_none (Ok (Some i)) e = let z : ◌≡◌ {A = Option ℕ} None (Some i) = cc in absurd (none-some i z)
 
-    judged_some : (t : Result (Option ℕ) Lie) (i : ℕ) → Ok (Some i) ≡ failed_or number q t → judged K S (state P row asked) now t ≡ question (named K S P row now i)
+    judged_some : (t : Result (Option ℕ) Lie) (i : ℕ) → Ok (Some i) ≡ failed_or number q t → judged K S P row q now t ≡ question (named K S P row now i)
     judged_some (Err lie) i e = absurd (err_ok (Failed (record { question = number; side = side q; lie = lie })) (Some i) (sym e))
     judged_some (Ok None) i e = let z : ◌≡◌ {A = Option ℕ} None (Some i) = cc in absurd (none-some i z)
     judged_some (Ok (Some j)) i e = let same : j ≡ i = cc in ap (λ i. question (named K S P row now i)) same

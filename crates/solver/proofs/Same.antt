@@ -12,6 +12,7 @@ use Rattle.algebra.proofs.Deltas.{extend-last, extend-below}
 use Rattle.algebra.proofs.Sums.{Σ-congr}
 use Rattle.algebra.specs.Profiles.{pivot_rows}
 use Rattle.solver.specs.Pivots.{SamePivots}
+use Rattle.solver.specs.Runs.{pivot_columns}
 use Rattle.solver.proofs.Filling.{values_same}
 
 -- what is extended by the same, below s + 1
@@ -134,3 +135,6 @@ module _ (F : Lawful) where
 
     pub pivot_rows-same : pivot_rows S ≡ pivot_rows T
     pivot_rows-same = values_same S.count T.count S.row T.row same.count same.row
+
+    pub pivot_columns-same : pivot_columns S ≡ pivot_columns T
+    pivot_columns-same = values_same S.count T.count S.column T.column same.count same.column

@@ -1,6 +1,5 @@
 -- What every run of a settle keeps, in words of rows, minutes and answers. Assumes nothing.
-use Rattle.std.specs.Prelude.{◌≡◌, ◌≢◌, ℕ, suc, ◌+◌, ◌%◌, ◌<◌, ◌≤◌, ◌↔◌, List, [], ◌∷◌, length, drop, Some, Option, Result, MatchResult}
-use Rattle.std.specs.List.{Contains}
+use Rattle.std.specs.Prelude.{◌≡◌, ◌≢◌, ℕ, suc, ◌+◌, ◌%◌, ◌<◌, ◌≤◌, ◌↔◌, ◌⊎◌, List, [], ◌∷◌, length, drop, Some, Option, Result, MatchResult}
 use Rattle.field.specs.Operations.{Operations}
 use Rattle.field.specs.Sums.{Σ}
 use Rattle.frame.specs.declared.refusals.Refusal.{Refusal}
@@ -34,7 +33,8 @@ Gave {X = X} S answer after from (e ∷ es) to = (before : X) × Gave S answer a
 
 -- an answer among them is false
 abbrev pub SomeFalse : Operations → System → List Exchange → Type 0
-SomeFalse K S es = (e : Exchange) × Contains es e × FalseAnswer K S e.question e.answer
+SomeFalse K S [] = ⊥
+SomeFalse K S (e ∷ es) = FalseAnswer K S e.question e.answer ⊎ SomeFalse K S es
 
 -- a failure tells of the last question: its number from 1, its side, and what is false in its answer
 abbrev pub FailureTells : Operations → System → List Exchange → Failure → Type 0

@@ -4,11 +4,16 @@ use Rattle.std.proofs.Props.{props}
 use Prim.{IsProp}
 use Rattle.field.specs.Operations.{Operations}
 use Rattle.rows.specs.Systems.{System, row_at}
-use Rattle.algebra.specs.Pivots.{Pivots}
+use Rattle.rows.specs.Values.{entry}
+use Rattle.algebra.specs.Pivots.{Pivots, PivotsOf}
 
 -- the sums of a system
 abbrev pub sum_at : System → ℕ → ℕ
 sum_at S i = (row_at S i).sum
+
+-- pivots of the rows' matrix
+abbrev pub PivotsOfRows : Operations → System → Pivots → Type 0
+PivotsOfRows K S P = PivotsOf K (length S.rows) S.width (entry K S) P
 
 -- so many pivots in lists of words: of the inverse, each row in 64 words
 abbrev pub pivots_in : ℕ → List ℕ → List ℕ → List ℕ → Pivots

@@ -68,14 +68,14 @@ pub data Next : Type 0 where
   question : State → Next
   end : Outcome → Next
 
-abbrev pub judged : Operations → System → State → List Exchange → Result (Option ℕ) Lie → Next
-judged K S st asked (Err lie) = end (Failed (record { question = length asked; side = side (next_question K S st); lie = lie }))
-judged K S st asked (Ok None) = end (ending st.pivots st.row asked)
-judged K S st asked (Ok (Some i)) = question (named K S st.pivots st.row asked i)
+abbrev pub judged : Operations → System → Pivots → Option ℕ → Asked → List Exchange → Result (Option ℕ) Lie → Next
+judged K S P row q asked (Err lie) = end (Failed (record { question = length asked; side = side q; lie = lie }))
+judged K S P row q asked (Ok None) = end (ending P row asked)
+judged K S P row q asked (Ok (Some i)) = question (named K S P row asked i)
 
 -- one question with its answer
 abbrev pub step : Operations → System → State → Option ℕ → Next
-step K S st a = judged K S st (exchanged K S st a) (tested K S (next_question K S st) a)
+step K S st a = judged K S st.pivots st.row (next_question K S st) (exchanged K S st a) (tested K S (next_question K S st) a)
 
 -- the pivot columns as a list
 abbrev pub pivot_columns : Pivots → List ℕ

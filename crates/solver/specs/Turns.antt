@@ -1,5 +1,5 @@
 -- What the steps of a run in code keep. Assumes nothing.
-use Rattle.std.specs.Prelude.{◌≡◌, ℕ, suc, ◌+◌, List, length, Some, None, Ok, Err, Option, Result, MatchResult}
+use Rattle.std.specs.Prelude.{◌≡◌, ℕ, suc, ◌+◌, List, length, Some, None, Ok, Err, Option, Result, MatchResult, ⊤}
 use Rattle.field.specs.Operations.{Operations}
 use Rattle.rows.specs.Systems.{System}
 use Rattle.algebra.specs.Pivots.{Pivots}
@@ -7,6 +7,7 @@ use Rattle.solver.specs.declared.findings.Findings.{Findings}
 use Rattle.solver.specs.declared.outcomes.Outcome.{Outcome}
 use Rattle.solver.specs.declared.lies.Lie.{Lie}
 use Rattle.solver.specs.declared.outcomes.Outcome.TheVariants.{Failed}
+use Rattle.solver.specs.Pivots.{PivotsOfRows}
 use Rattle.solver.specs.Questions.{Asked, side}
 use Rattle.solver.specs.Runs.{Exchange, State, Next, question, end, Ran, Writes, named, exchanged, next_question, step, run}
 
@@ -30,10 +31,23 @@ pub record Put {X : Type 0} (K : Operations) (S : System) (answer : X → System
   pub next : step K S st (answer from S (next_question K S st)) ≡ next_from K S st (exchanged K S st (answer from S (next_question K S st))) r
   pub writes : MatchResult r (λ i. f' ≡ f) (λ o. Writes o (exchanged K S st (answer from S (next_question K S st))) f f')
 
--- a turn, which begins with the row question: a pivot more, or the run has ended
-abbrev pub Turned : {X : Type 0} → Operations → System → (X → System → Asked → Option ℕ) → (X → System → Asked → X) → (P P' : Pivots) → List Exchange → (from to : X) (f f' : Findings) → Result (Unit {0}) Outcome → Type 0
-Turned {X = X} K S answer after P P' asked from to f f' r =
-    (left : ℕ) →
-    MatchResult r
-    (λ _. (later : List Exchange) × (length later ≡ P'.count + P'.count) × (run K S answer after (suc (suc left)) (state P None asked) from ≡ run K S answer after left (state P' None later) to) × (f' ≡ f))
-    (λ o. (ran : Ran X) × (run K S answer after (suc (suc left)) (state P None asked) from ≡ Some ran) × (o ≡ ran.outcome) × (to ≡ ran.scout) × Writes o ran.asked f f')
+-- a turn that begins with the row question and makes a pivot more: two questions later the run stands at the next turn, and nothing
+-- is written
+abbrev pub TurnsTo : {X : Type 0} → Operations → System → (X → System → Asked → Option ℕ) → (X → System → Asked → X) → (P P' : Pivots) → List Exchange → (from to : X) (f f' : Findings) → ℕ → Type 0
+TurnsTo K S answer after P P' asked from to f f' left =
+    (later : List Exchange) × (length later ≡ P'.count + P'.count) × (run K S answer after (suc (suc left)) (state P None asked) from ≡ run K S answer after left (state P' None later) to) × (f' ≡ f)
+
+-- a turn in which the run ends
+abbrev pub EndsIn : {X : Type 0} → Operations → System → (X → System → Asked → Option ℕ) → (X → System → Asked → X) → Pivots → List Exchange → (from to : X) (f f' : Findings) → Outcome → ℕ → Type 0
+EndsIn {X = X} K S answer after P asked from to f f' o left =
+    (ran : Ran X) × (run K S answer after (suc (suc left)) (state P None asked) from ≡ Some ran) × (o ≡ ran.outcome) × (to ≡ ran.scout) × Writes o ran.asked f f'
+
+-- one or the other, with as many questions left as are wanted
+abbrev pub Turned : {X : Type 0} → Operations → System → (X → System → Asked → Option ℕ) → (X → System → Asked → X) → (P P' : Pivots) → (from to : X) (f f' : Findings) → Result (Unit {0}) Outcome → Type 0
+Turned K S answer after P P' from to f f' r =
+    (asked : List Exchange) (left : ℕ) → length asked ≡ P.count + P.count →
+    MatchResult r (λ _. TurnsTo K S answer after P P' asked from to f f' left) (λ o. EndsIn K S answer after P asked from to f f' o left)
+
+-- what a pivot more leaves: pivots again, one more
+abbrev pub Grown : Operations → System → (P P' : Pivots) → Result (Unit {0}) Outcome → Type 0
+Grown K S P P' r = MatchResult r (λ _. PivotsOfRows K S P' × (P'.count ≡ suc P.count)) (λ o. ⊤)

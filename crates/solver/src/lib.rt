@@ -6,6 +6,6 @@ pub mod lies;
 pub mod outcomes;
 mod pivots;
 pub mod questions;
-mod runs;
+pub mod runs;
 pub mod scouts;
 mod vectors;

@@ -2,12 +2,13 @@
 ghost use Rattle.std.specs.Prelude.{◌≡◌, ◌≢◌, ℕ, ◌+◌, ◌<◌, List, length, Some, None, MatchResult, ⊤};
 ghost use Rattle.rows.specs.Values.{entry};
 ghost use Rattle.algebra.specs.Places.{Outside};
-ghost use Rattle.algebra.specs.Pivots.{PivotsOf, schur, row_coefficients};
+ghost use Rattle.algebra.specs.Pivots.{schur, row_coefficients};
 ghost use Rattle.solver.specs.Slices.{Begins};
+ghost use Rattle.solver.specs.Pivots.{PivotsOfRows};
 ghost use Rattle.solver.specs.Spaces.{pivots_of};
 ghost use Rattle.solver.specs.Runs.{Exchange};
 ghost use Rattle.solver.specs.Questions.{asked, tested, TrueAnswer};
-ghost use Rattle.solver.specs.Turns.{state, failed_or, Put, Turned};
+ghost use Rattle.solver.specs.Turns.{state, failed_or, Put, Turned, Grown};
 ghost use Rattle.solver.specs.Laws.{Settles, SettlesIn};
 
 use crate::findings::Findings;
@@ -50,7 +51,7 @@ fn ask_rows<F: Field, R: Rows, S: Scout<F>>(
     pivots: &PivotSpace<'_>,
     findings: &mut Findings,
 ) -> Result<usize, Outcome>
-    requires { PivotsOf F.Field.ops (length (R.Rows.system rows.now).rows) (R.Rows.system rows.now).width (entry F.Field.ops (R.Rows.system rows.now)) (pivots_of pivots.now) }
+    requires { PivotsOfRows F.Field.ops (R.Rows.system rows.now) (pivots_of pivots.now) }
     ensures put { (asked : List Exchange) → length asked ≡ pivots.now.count + pivots.now.count → Put F.Field.ops (R.Rows.system rows.now) S.Scout.answer S.Scout.after (state (pivots_of pivots.now) None asked) scout.old scout.new findings.old findings.new result }
     ensures place { MatchResult result (λ i. (i < length (R.Rows.system rows.now).rows) × Outside pivots.now.count (pivots_of pivots.now).row i) (λ o. ⊤) }
 {
@@ -76,7 +77,7 @@ fn ask_columns<F: Field, R: Rows, S: Scout<F>>(
     coefficients: &[u16; MOST_MINUTES],
     findings: &mut Findings,
 ) -> Result<usize, Outcome>
-    requires pivots { PivotsOf F.Field.ops (length (R.Rows.system rows.now).rows) (R.Rows.system rows.now).width (entry F.Field.ops (R.Rows.system rows.now)) (pivots_of pivots.now) }
+    requires pivots { PivotsOfRows F.Field.ops (R.Rows.system rows.now) (pivots_of pivots.now) }
     requires row { (row < length (R.Rows.system rows.now).rows) × Outside pivots.now.count (pivots_of pivots.now).row row }
     requires coefficients { Begins pivots.now.count (row_coefficients F.Field.ops (entry F.Field.ops (R.Rows.system rows.now)) (pivots_of pivots.now) row) coefficients.now }
     ensures put { (asked : List Exchange) → length asked ≡ pivots.now.count + pivots.now.count + 1 → Put F.Field.ops (R.Rows.system rows.now) S.Scout.answer S.Scout.after (state (pivots_of pivots.now) (Some row) asked) scout.old scout.new findings.old findings.new result }
@@ -93,4 +94,56 @@ fn ask_columns<F: Field, R: Rows, S: Scout<F>>(
         }));
     };
     Ok(minute)
+}
+
+// One turn: the row question, the column question of the row named, and a pivot more; or how the run ends.
+fn turn<F: Field, R: Rows, S: Scout<F>>(
+    rows: &R,
+    scout: &mut S,
+    pivots: &mut PivotSpace<'_>,
+    findings: &mut Findings,
+) -> Result<(), Outcome>
+    requires { PivotsOfRows F.Field.ops (R.Rows.system rows.now) (pivots_of pivots.old) }
+    ensures turned { Turned F.Field.ops (R.Rows.system rows.now) S.Scout.answer S.Scout.after (pivots_of pivots.old) (pivots_of pivots.new) scout.old scout.new findings.old findings.new result }
+    ensures grown { Grown F.Field.ops (R.Rows.system rows.now) (pivots_of pivots.old) (pivots_of pivots.new) result }
+{
+    let row = ask_rows::<F, R, S>(rows, scout, pivots, findings)?;
+    let coefficients = pivots.row_coefficients::<F, R>(rows, row);
+    let minute = ask_columns::<F, R, S>(rows, scout, pivots, row, &coefficients, findings)?;
+    pivots.grow::<F, R>(rows, row, minute, &coefficients);
+    Ok(())
+}
+
+// Turn after turn from no pivots on, until the run ends.
+fn complete<F: Field, R: Rows, S: Scout<F>>(
+    rows: &R,
+    scout: &mut S,
+    pivots: &mut PivotSpace<'_>,
+    findings: &mut Findings,
+) -> Outcome
+    requires { pivots.old.count ≡ 0 }
+    ensures { Settles F.Field.ops (R.Rows.system rows.now) S.Scout.answer S.Scout.after scout.old scout.new findings.old findings.new result }
+{
+    loop {
+        if let Err(outcome) = turn::<F, R, S>(rows, scout, pivots, findings) {
+            return outcome;
+        }
+    }
+}
+
+// Settles the rows: finds minutes that satisfy them all, or shows that none do, with pivots that the scout points to.
+// Refuses a work space under 8192 words (6), and then changes nothing.
+pub fn settle<F: Field, R: Rows, S: Scout<F>>(
+    rows: &R,
+    scout: &mut S,
+    work: &mut [u16],
+    findings: &mut Findings,
+) -> Result<Outcome, Refusal>
+    ensures { SettlesIn F.Field.ops (R.Rows.system rows.now) S.Scout.answer S.Scout.after scout.old scout.new work.old work.new findings.old findings.new result }
+{
+    if work.len() < WORK_WORDS {
+        return Err(Refusal::SpaceTooShort);
+    }
+    let mut pivots = PivotSpace::new(work);
+    Ok(complete::<F, R, S>(rows, scout, &mut pivots, findings))
 }
