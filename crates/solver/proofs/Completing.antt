@@ -1,9 +1,9 @@
 -- A run of turns. Assumes nothing.
-use Rattle.std.proofs.Common.{◌≡◌, ℕ, zero, suc, ◌+◌, ◌-◌, ◌<◌, ◌≤◌, List, [], length, Some, None, Option, Result, sym, refl, ap, subst, ◌∙◌, arith}
+use Rattle.std.proofs.Common.{◌≡◌, ℕ, suc, ◌+◌, ◌-◌, ◌≤◌, List, [], length, None, Option, sym, refl, ap, subst, ◌∙◌, arith}
 use Rattle.field.specs.Operations.{Operations}
 use Rattle.field.specs.Laws.{Lawful}
 use Rattle.rows.specs.Systems.{System, WellFormed}
-use Rattle.rows.specs.Values.{choice, entry}
+use Rattle.rows.specs.Values.{entry}
 use Rattle.algebra.specs.Pivots.{Pivots, no_pivots}
 use Rattle.algebra.proofs.Growth.{no_pivots-PivotsOf}
 use Rattle.algebra.proofs.Pivots.{count-le_columns}
@@ -11,8 +11,8 @@ use Rattle.solver.specs.declared.findings.Findings.{Findings}
 use Rattle.solver.specs.declared.outcomes.Outcome.{Outcome}
 use Rattle.solver.specs.Pivots.{PivotsOfRows, SamePivots}
 use Rattle.solver.specs.Questions.{Asked}
-use Rattle.solver.specs.Runs.{Exchange, Ran, Writes, most_questions, run, whole_run}
-use Rattle.solver.specs.Turns.{state, TurnsTo, EndsIn, Turned}
+use Rattle.solver.specs.Runs.{Exchange, Writes, most_questions, run, whole_run}
+use Rattle.solver.specs.Turns.{state, TurnsTo, EndsIn}
 use Rattle.solver.specs.Laws.{Settles}
 use Rattle.solver.proofs.Same.{PivotsOf-same}
 use Rattle.solver.proofs.Running.{run-same}

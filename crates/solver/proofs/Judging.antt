@@ -24,12 +24,24 @@ module _ (K : Operations) (S : System) (q : Asked) where
         | inr some ↦ absurd (t (ap not (ne_eqb (v i) 0 some)))
       ]
 
+  -- the first place is a true answer
+  pub first_true : (r : Option ℕ) → first_place K S q ≡ r → TrueAnswer K S q r
+  first_true None e = λ i h. zero i (first_from-none (λ i. not (v i == 0)) n 0 i e (omega arith) (omega arith))
+  first_true (Some i) e = let f = first_from-some (λ i. not (v i == 0)) n 0 i e in (omega (arith, f.1), not_zero i f.0)
+
+  -- and no answer is both
+  pub true_not_false : (a : Option ℕ) → TrueAnswer K S q a → FalseAnswer K S q a → ⊥
+  true_not_false None t f = f.2 (t f.0 f.1)
+  true_not_false (Some i) t (inl past) = let h = t.0 in omega arith
+  true_not_false (Some i) t (inr z) = t.1 z
+
+  pub first_honest : FalseAnswer K S q (first_place K S q) → ⊥
+  first_honest = true_not_false (first_place K S q) (first_true (first_place K S q) refl)
+
   -- each way in which a test can come out
   pub judged_none : (a r : Option ℕ) → a ≡ None → first_place K S q ≡ r → Judges K S q a (none_tested r)
-  judged_none a None none e = rw (none) (refl, λ i h. zero i (first_from-none (λ i. not (v i == 0)) n 0 i e (omega arith) (omega arith)))
-  judged_none a (Some i) none e =
-      let f = first_from-some (λ i. not (v i == 0)) n 0 i e in
-      rw (none) ((refl, e), (i, omega (arith, f.1), not_zero i f.0))
+  judged_none a None none e = rw (none) (refl, first_true None e)
+  judged_none a (Some i) none e = let t = first_true (Some i) e in rw (none) ((refl, e), (i, t.0, t.1))
 
   judged_value : (i : ℕ) → i < n → Judges K S q (Some i) (cond (v i == 0) (Err (Zero i)) (Ok (Some i)))
   judged_value i h =

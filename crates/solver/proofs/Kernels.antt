@@ -1,5 +1,5 @@
 -- Products of vectors in slices. Assumes nothing.
-use Rattle.std.proofs.Common.{◌≡◌, ℕ, ◌<◌, ◌≤◌, List, length, min, slice_index, sym, ap, ◌∙◌, arith}
+use Rattle.std.proofs.Common.{◌≡◌, ℕ, ◌<◌, ◌≤◌, List, length, min, slice_index, ap, ◌∙◌, arith}
 use Rattle.field.specs.Laws.{Lawful}
 use Rattle.algebra.specs.Vectors.{dot}
 use Rattle.algebra.proofs.Sums.{Σ-congr}

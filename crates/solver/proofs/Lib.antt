@@ -14,3 +14,4 @@ pub mod Puts
 pub mod Running
 pub mod RunLaws
 pub mod Completing
+pub mod Looking

@@ -1,15 +1,14 @@
 -- Rows as a matrix and sums. Assumes nothing.
-use Rattle.std.proofs.Common.{◌≡◌, ◌≢◌, ℕ, zero, suc, ◌%◌, ◌<◌, ◌≤◌, ◌==◌, List, [], ◌∷◌, length, map, cond, slice_index, sym, refl, ap, subst, ◌∙◌, inl, inr, arith, mod-eq_of_lt}
+use Rattle.std.proofs.Common.{◌≡◌, ◌≢◌, ℕ, suc, ◌%◌, ◌<◌, List, [], ◌∷◌, length, sym, refl, ap, ◌∙◌, inl, inr, arith}
 use Rattle.std.proofs.lemmas.Bool.{cases_eq, eq-eqb, ne_eqb}
-use native.Mathlib.Nat.{mod-mod}
 use Rattle.field.specs.Laws.{Lawful}
 use Rattle.field.specs.Sums.{Σ}
 use Rattle.field.proofs.FieldLemmas.{ring, times-mod}
 use Rattle.frame.specs.declared.terms.Term.{Term}
 use Rattle.frame.specs.Frames.{minute_at}
 use Rattle.rows.specs.Systems.{System, row_at, WellFormed}
-use Rattle.rows.specs.Values.{weight_for, weighted, entry, row_value, column_value, Satisfies, SatisfiesAll}
-use Rattle.algebra.specs.Vectors.{δ, mul_vec, vec_mul}
+use Rattle.rows.specs.Values.{weight_for, weighted, entry, row_value, SatisfiesAll}
+use Rattle.algebra.specs.Vectors.{δ, mul_vec}
 use Rattle.algebra.specs.Spans.{SolvesAll}
 use Rattle.algebra.proofs.Deltas.{δ-self, δ-ne}
 use Rattle.algebra.proofs.Sums.{Σ-congr, Σ-plus, Σ-of_zero, Σ-δ}

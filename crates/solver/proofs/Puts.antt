@@ -1,6 +1,5 @@
 -- One question of a run, from the answer tested. Assumes nothing.
 use Rattle.std.proofs.Common.{◌≡◌, ℕ, suc, List, length, Some, None, Ok, Err, Option, Result, sym, refl, ap, subst, ◌∙◌}
-use Rattle.std.specs.Result.{MatchResult}
 use Rattle.std.proofs.lemmas.Option.{none-some}
 use Rattle.field.specs.Operations.{Operations}
 use Rattle.frame.proofs.Apart.{err_ok}

@@ -1,5 +1,5 @@
 -- Sums and weights that are read, 0 where there is nothing. Assumes nothing.
-use Rattle.std.proofs.Common.{◌≡◌, ℕ, suc, zero, ◌%◌, ◌<◌, ◌≤◌, List, [], ◌∷◌, length, nat_lt, cond, slice_index_or, Some, None, Option, refl, sym, ap, ◌∙◌, inl, inr, arith}
+use Rattle.std.proofs.Common.{◌≡◌, ℕ, suc, zero, ◌%◌, ◌<◌, ◌≤◌, List, [], ◌∷◌, length, slice_index_or, refl, sym, ap, ◌∙◌, inl, inr, arith}
 use Rattle.std.specs.List.{slice_get}
 use Rattle.std.specs.Option.{unwrap_or, option_map}
 use Rattle.std.proofs.lemmas.Bool.{cases_lt, lt-ltb, le-ltb}
@@ -7,7 +7,7 @@ use Rattle.std.proofs.lemmas.List.{get_or_past}
 use Rattle.field.specs.Laws.{Lawful}
 use Rattle.field.proofs.FieldLemmas.{zero-mod-q}
 use Rattle.rows.specs.Systems.{Row, System, empty_row, row_at, sum_of_row, WellFormed}
-use Rattle.rows.specs.Values.{weight_for, entry, entry_of}
+use Rattle.rows.specs.Values.{entry, entry_of}
 use Rattle.solver.specs.Pivots.{sum_at}
 use Rattle.solver.proofs.AddedRows.{weight_without}
 

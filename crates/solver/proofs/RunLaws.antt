@@ -1,14 +1,14 @@
 -- What every run keeps. Assumes nothing.
-use Rattle.std.proofs.Common.{◌≡◌, ◌≢◌, ℕ, zero, suc, ◌+◌, ◌%◌, ◌<◌, ◌≤◌, List, [], ◌∷◌, length, drop, Some, None, Ok, Err, Option, Result, sym, refl, ap, subst, ◌∙◌, inl, inr, arith, mod-eq_of_lt}
+use Rattle.std.proofs.Common.{◌≡◌, ◌≢◌, ℕ, zero, suc, ◌+◌, ◌<◌, ◌≤◌, List, [], ◌∷◌, length, Some, None, Ok, Err, Option, Result, sym, refl, ap, subst, ◌∙◌, inl, inr, arith, mod-eq_of_lt}
 use Rattle.std.specs.Result.{MatchResult}
+use Rattle.field.specs.Operations.{Operations}
 use Rattle.field.specs.Laws.{Lawful}
-use Rattle.field.specs.Slices.{Filled}
+use Rattle.frame.specs.declared.refusals.Refusal.{Refusal}
 use Rattle.rows.specs.Systems.{System, row_at, WellFormed}
 use Rattle.rows.specs.Values.{choice, entry, SatisfiesAll}
 use Rattle.rows.proofs.RowValues.{value_tells}
-use Rattle.algebra.specs.Places.{Outside}
 use Rattle.algebra.specs.Vectors.{δ, mul_vec, vec_mul, dot}
-use Rattle.algebra.specs.Pivots.{Pivots, no_pivots, schur, solution, multipliers, grow}
+use Rattle.algebra.specs.Pivots.{Pivots, solution, multipliers}
 use Rattle.algebra.specs.Profiles.{pivot_rows}
 use Rattle.algebra.proofs.Growth.{no_pivots-PivotsOf}
 use Rattle.algebra.proofs.Profiles.{pivot_rows-length, pivot_rows-IndependentRows, count-le_rank}
@@ -17,25 +17,18 @@ use Rattle.algebra.proofs.Systems.{no_solution}
 use Rattle.algebra.proofs.Sums.{Σ-congr, Σ-code}
 use Rattle.solver.specs.declared.lies.Lie.{Lie}
 use Rattle.solver.specs.declared.findings.Findings.{Findings}
-use Rattle.solver.specs.declared.outcomes.Failure.{Failure}
 use Rattle.solver.specs.declared.outcomes.Outcome.{Outcome}
-use Rattle.solver.specs.declared.outcomes.Outcome.TheVariants.{Solved, Contradiction, Failed}
+use Rattle.solver.specs.declared.outcomes.Outcome.TheVariants.{Failed}
 use Rattle.solver.specs.Pivots.{sum_at, PivotsOfRows}
-use Rattle.solver.specs.Questions.{Asked, about_rows, about_columns, side, value_at, tested, FalseAnswer, TrueAnswer, Tells, Judges}
-use Rattle.solver.specs.Runs.{Exchange, State, start, Next, question, end, Ran, x_of, u_of, question_of, next_question, exchanged, named, ending, judged, step, pivot_columns, run, whole_run, most_questions, Writes}
+use Rattle.solver.specs.Questions.{Asked, about_rows, about_columns, side, value_at, tested, FalseAnswer, TrueAnswer, Judges}
+use Rattle.solver.specs.Runs.{Exchange, State, start, Next, question, end, Ran, x_of, u_of, question_of, next_question, named, ending, judged, step, pivot_columns, run, whole_run, most_questions, Writes}
 use Rattle.solver.specs.Turns.{state}
-use Rattle.solver.specs.Laws.{IsSolved, IsContradiction, IsFailed, Gave, SomeFalse, FailureTells, Impossible, RunLaws}
-use Rattle.solver.proofs.Judging.{judges}
+use Rattle.solver.specs.Laws.{IsFailed, Gave, SomeFalse, FailureTells, RunLaws, SettlesIn}
+use Rattle.solver.proofs.Judging.{judges, true_not_false}
 use Rattle.solver.proofs.Filling.{values_hold}
 use Rattle.solver.proofs.Matrix.{SatisfiesAll-congr, SolvesAll-of_SatisfiesAll}
-use Rattle.solver.proofs.Asking.{row_left, row_outside, column_left}
+use Rattle.solver.proofs.Asking.{row_left, column_left}
 use Rattle.solver.proofs.Running.{go, run_step, grown_pivots}
-
--- an answer is not both
-true_not_false : (F : Lawful) (S : System) (q : Asked) (a : Option ℕ) → TrueAnswer F.ops S q a → FalseAnswer F.ops S q a → ⊥
-true_not_false F S q None t f = f.2 (t f.0 f.1)
-true_not_false F S q (Some i) t (inl past) = let h = t.0 in omega arith
-true_not_false F S q (Some i) t (inr z) = t.1 z
 
 -- the two ways of going on are apart
 end_question : (o : Outcome) (st : State) → ◌≡◌ {A = Next} (end o) (question st) → ⊥
@@ -75,7 +68,7 @@ module _ {X : Type 0} (F : Lawful) (S : System) (formed : WellFormed S) (answer 
   asks st scout = record { question = next_question F.ops S st; answer = answer scout S (next_question F.ops S st) }
 
   still_true : (st : State) (scout : X) → Keeps st scout → TrueAnswer F.ops S (next_question F.ops S st) (answer scout S (next_question F.ops S st)) → SomeFalse F.ops S (asks st scout ∷ st.asked) → ⊥
-  still_true st scout K t (inl f) = true_not_false F S (next_question F.ops S st) (answer scout S (next_question F.ops S st)) t f
+  still_true st scout K t (inl f) = true_not_false F.ops S (next_question F.ops S st) (answer scout S (next_question F.ops S st)) t f
   still_true st scout K t (inr f) = K.all_true f
 
   -- a true answer that names a place leads on
@@ -323,3 +316,9 @@ module _ {X : Type 0} (F : Lawful) (S : System) (formed : WellFormed S) (answer 
       let a = answer last.scout S q in
       subst (λ r. RunLaws F.ops S answer after from r (choice f'.minutes) (choice f'.blame)) (sym is)
       (laws_at last.st.pivots last.st.row last.st.asked last.scout last.keeps f f' (tested F.ops S q a) last.outcome (judges F.ops S q a) last.ended (subst (λ r. Writes r.outcome r.asked f f') is W))
+
+-- where its scout never lies a settle does not fail
+pub never_failed : {X : Type 0} (K : Operations) (S : System) (answer : X → System → Asked → Option ℕ) (after : X → System → Asked → X) (from to : X) (work work' : List ℕ) (f f' : Findings) (r : Result Outcome Refusal) →
+    ((state : X) (q : Asked) → FalseAnswer K S q (answer state S q) → ⊥) → SettlesIn K S answer after from to work work' f f' r → MatchResult r (λ o. IsFailed o → ⊥) (λ e. Unit {0})
+never_failed K S answer after from to work work' f f' (Ok o) honest s = λ failed. s.1.laws.honest honest (subst IsFailed s.1.outcome failed)
+never_failed K S answer after from to work work' f f' (Err e) honest s = tt

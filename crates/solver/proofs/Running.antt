@@ -15,7 +15,7 @@ use Rattle.solver.specs.declared.outcomes.Outcome.TheVariants.{Solved, Contradic
 use Rattle.solver.specs.Pivots.{sum_at, SamePivots, PivotsOfRows}
 use Rattle.solver.specs.Questions.{Asked, about_rows, about_columns, side, tested}
 use Rattle.solver.specs.Runs.{Exchange, State, Next, question, end, Ran, question_of, next_question, exchanged, named, ending, judged, step, pivot_columns, run, Writes}
-use Rattle.solver.specs.Turns.{state, next_from, Put, TurnsTo, EndsIn}
+use Rattle.solver.specs.Turns.{state, Put, TurnsTo, EndsIn}
 use Rattle.solver.proofs.Filling.{values_same}
 use Rattle.solver.proofs.Same.{solution-same, multipliers-same, grow-same, pivot_rows-same, pivot_columns-same}
 

@@ -1,12 +1,10 @@
 -- Pivots that are the same as far as they count have the same solution, multipliers and growth. Assumes nothing.
-use Rattle.std.proofs.Common.{◌≡◌, ℕ, suc, ◌<◌, ◌≤◌, List, map, sym, refl, ap, ◌∙◌, inl, inr, arith}
-use Rattle.std.specs.List.{range_with_len}
+use Rattle.std.proofs.Common.{◌≡◌, ℕ, suc, ◌<◌, sym, refl, ap, ◌∙◌, inl, inr, arith}
 use Rattle.std.proofs.lemmas.Bool.{cases_eq}
 use Rattle.field.specs.Laws.{Lawful}
 use Rattle.field.specs.Sums.{Σ}
 use Rattle.field.specs.Operations.{inverse}
-use Rattle.algebra.specs.Places.{Below}
-use Rattle.algebra.specs.Vectors.{δ, dot, mul_vec, place, extend, bordered, submatrix, mat_mul}
+use Rattle.algebra.specs.Vectors.{δ, mul_vec, place, extend, bordered}
 use Rattle.algebra.specs.Pivots.{Pivots, PivotsOf, row_coefficients, column_coefficients, schur, grown, grow, solution, multipliers}
 use Rattle.algebra.proofs.Deltas.{extend-last, extend-below}
 use Rattle.algebra.proofs.Sums.{Σ-congr}
@@ -66,7 +64,7 @@ module _ (F : Lawful) where
         Σ-same S.count T.count (λ l. S.inverse k l ⊗ A (S.row l) j) (λ l. T.inverse k l ⊗ A (T.row l) j) same.count
         (λ l hl. times-same (S.inverse k l) (T.inverse k l) (A (S.row l) j) (A (T.row l) j) (same.inverse k l h hl) (ap (λ r. A r j) (same.row l hl)))
 
-    schur-same : (i j : ℕ) → schur F.ops A S i j ≡ schur F.ops A T i j
+    pub schur-same : (i j : ℕ) → schur F.ops A S i j ≡ schur F.ops A T i j
     schur-same i j =
         ap (λ d. A i j ⊕ negative d)
         (Σ-same S.count T.count (λ l. row_coefficients F.ops A S i l ⊗ A (S.row l) j) (λ l. row_coefficients F.ops A T i l ⊗ A (T.row l) j) same.count

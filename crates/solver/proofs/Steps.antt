@@ -9,7 +9,7 @@ use Rattle.field.specs.Slices.{Filled}
 use Rattle.field.specs.Sums.{Σ}
 use Rattle.algebra.specs.Places.{Distinct, Outside}
 use Rattle.algebra.specs.Vectors.{dot, mul_vec, vec_mul, unit_minus, extend}
-use Rattle.algebra.specs.Pivots.{Pivots, row_coefficients, column_coefficients, schur, grow, grown, solution}
+use Rattle.algebra.specs.Pivots.{Pivots, row_coefficients, column_coefficients, schur, grow, solution}
 use Rattle.algebra.proofs.Deltas.{extend-last, extend-below}
 use Rattle.algebra.proofs.Sums.{Σ-zero, Σ-suc, Σ-congr, Σ-mod}
 use Rattle.solver.specs.Slices.{Begins, Holds, Placed}

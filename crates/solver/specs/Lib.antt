@@ -6,3 +6,4 @@ pub mod Spaces
 pub mod Runs
 pub mod Turns
 pub mod Laws
+pub mod Profiling

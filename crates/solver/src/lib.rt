@@ -5,6 +5,7 @@ pub mod findings;
 pub mod lies;
 pub mod outcomes;
 mod pivots;
+pub mod profiles;
 pub mod questions;
 pub mod runs;
 pub mod scouts;

@@ -26,6 +26,7 @@ pub struct PivotSpace<'a> {
 
 impl<'a> PivotSpace<'a> {
     ghost use Rattle.std.specs.Prelude.{◌≡◌, ℕ, ◌<◌, ◌≤◌, length, slice_index};
+    ghost use Rattle.field.specs.Slices.{Filled};
     ghost use Rattle.rows.specs.Values.{entry};
     ghost use Rattle.algebra.specs.Places.{Distinct, Outside};
     ghost use Rattle.algebra.specs.Vectors.{dot, mul_vec, unit_minus};
@@ -202,5 +203,13 @@ impl<'a> PivotSpace<'a> {
         self.rows[self.count] = row as u16;
         self.columns[self.count] = minute as u16;
         self.count += 1;
+    }
+
+    // Writes the pivot rows, in the order found, to the head of a list.
+    pub fn write_rows(&self, list: &mut [u16])
+        requires { self.now.count ≤ length list.old }
+        ensures { Filled self.now.count (pivots_of self.now).row list.old list.new }
+    {
+        list[..self.count].copy_from_slice(&self.rows[..self.count]);
     }
 }

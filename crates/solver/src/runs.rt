@@ -7,16 +7,17 @@ ghost use Rattle.solver.specs.Slices.{Begins};
 ghost use Rattle.solver.specs.Pivots.{PivotsOfRows};
 ghost use Rattle.solver.specs.Spaces.{pivots_of};
 ghost use Rattle.solver.specs.Runs.{Exchange};
-ghost use Rattle.solver.specs.Questions.{asked, tested, TrueAnswer};
+ghost use Rattle.solver.specs.Questions.{asked, tested, TrueAnswer, first_place};
 ghost use Rattle.solver.specs.Turns.{state, failed_or, Put, Turned, Grown};
-ghost use Rattle.solver.specs.Laws.{Settles, SettlesIn};
+ghost use Rattle.solver.specs.declared.scouts.Scan.{Scan};
+ghost use Rattle.solver.specs.Laws.{IsFailed, Settles, SettlesIn};
 
 use crate::findings::Findings;
 use crate::lies::judge;
 use crate::outcomes::{Count, Failure, Outcome};
 use crate::pivots::{PivotSpace, WORK_WORDS};
 use crate::questions::Question;
-use crate::scouts::Scout;
+use crate::scouts::{Scan, Scout};
 use field::fields::Field;
 use frame::refusals::Refusal;
 use rows::reading::Rows;
@@ -146,4 +147,16 @@ pub fn settle<F: Field, R: Rows, S: Scout<F>>(
     }
     let mut pivots = PivotSpace::new(work);
     Ok(complete::<F, R, S>(rows, scout, &mut pivots, findings))
+}
+
+// Settles by the scan, which never lies, so that the run never fails.
+pub fn settle_by_scan<F: Field, R: Rows>(
+    rows: &R,
+    work: &mut [u16],
+    findings: &mut Findings,
+) -> Result<Outcome, Refusal>
+    ensures settles { (scan : Scan) → SettlesIn F.Field.ops (R.Rows.system rows.now) (λ state S q. first_place F.Field.ops S q) (λ state S q. state) scan scan work.old work.new findings.old findings.new result }
+    ensures never_fails { MatchResult result (λ o. IsFailed o → ⊥) (λ e. ⊤) }
+{
+    settle::<F, R, Scan>(rows, &mut Scan, work, findings)
 }

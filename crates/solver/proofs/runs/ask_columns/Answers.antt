@@ -1,4 +1,4 @@
-use Rattle.std.proofs.Common.{◌≡◌, ℕ, suc, ◌+◌, ◌*◌, List, length, take, Some, None, Ok, Err, refl, sym, ap, subst, arith, ◌∙◌, rules, tests}
+use Rattle.std.proofs.Common.{◌≡◌, suc, ◌+◌, ◌*◌, length, take, Some, Ok, Err, refl, sym, ap, subst, arith, ◌∙◌, rules, tests}
 use Rattle.field.specs.LawsForAll.{lawful}
 use Rattle.field.specs.Slices.{Filled}
 use Rattle.rows.specs.Values.{choice, entry}
@@ -6,7 +6,7 @@ use Rattle.algebra.proofs.Pivots.{pivot_rows-Distinct}
 use Rattle.solver.specs.declared.outcomes.Outcome.TheVariants.{Contradiction}
 use Rattle.solver.specs.Spaces.{pivots_of}
 use Rattle.solver.specs.Questions.{about_columns, TrueAnswer}
-use Rattle.solver.specs.Runs.{u_of, codes_in}
+use Rattle.solver.specs.Runs.{codes_in}
 use Rattle.solver.specs.Turns.{state, Put}
 use Rattle.solver.proofs.Asking.{columns_asked, column_left}
 use Rattle.solver.proofs.Puts.{put_err, put_none, put_some, same_counts}

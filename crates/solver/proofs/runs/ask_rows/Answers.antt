@@ -1,4 +1,4 @@
-use Rattle.std.proofs.Common.{◌≡◌, ℕ, suc, ◌+◌, ◌*◌, List, length, take, Some, None, Ok, Err, refl, sym, ap, subst, arith, ◌∙◌, rules, tests}
+use Rattle.std.proofs.Common.{◌≡◌, suc, ◌+◌, ◌*◌, length, take, Some, None, Ok, Err, refl, sym, ap, subst, arith, ◌∙◌, rules, tests}
 use Rattle.field.specs.LawsForAll.{lawful}
 use Rattle.field.specs.Slices.{Filled}
 use Rattle.rows.specs.Values.{choice, entry}

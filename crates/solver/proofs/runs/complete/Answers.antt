@@ -56,6 +56,8 @@ loop-outcome-preserved g c =
     let to = c.turn.new.scout in
     let f' = c.loop-outcome.findings in
     let f'' = c.turn.new.findings in
-    let grown = c.in_default.ensures.grown in
-    (grown.0, turning_next F S formed g.S.Scout.answer g.S.Scout.after from f P I now to f' f'' T (pivots_of c.turn.new.pivots) grown.1
-    (c.in_default.ensures.turned T.asked (later F S formed g.S.Scout.answer g.S.Scout.after from f P I now to f' f'' T) T.many))
+    let grown = c.in_default.ensures.grown in (
+      grown.0,
+      turning_next F S formed g.S.Scout.answer g.S.Scout.after from f P I now to f' f'' T (pivots_of c.turn.new.pivots) grown.1
+          (c.in_default.ensures.turned T.asked (later F S formed g.S.Scout.answer g.S.Scout.after from f P I now to f' f'' T) T.many),
+    )

@@ -1,9 +1,8 @@
-use Rattle.std.proofs.Common.{◌≡◌, length, Err, sym, arith, refl, ◌∙◌, rules, tests}
+use Rattle.std.proofs.Common.{length, arith, rules, tests}
 use Rattle.field.specs.LawsForAll.{lawful}
 use Rattle.rows.specs.Values.{entry}
 use Rattle.algebra.specs.Pivots.{grow}
 use Rattle.solver.specs.Spaces.{pivots_of}
-use Rattle.solver.specs.Turns.{TurnsTo, EndsIn}
 use Rattle.solver.proofs.Same.{PivotsOf-same}
 use Rattle.solver.proofs.Running.{ends_at_rows, further, ends_at_columns, turns, match_err, grown_pivots, room}
 use Rattle.solver.proofs.runs.turn.Goals as goal

@@ -1,4 +1,4 @@
-use Rattle.std.proofs.Common.{slice_index, length, arith, subst, ◌∙◌, length-set}
+use Rattle.std.proofs.Common.{slice_index, arith, subst, ◌∙◌, length-set}
 use Rattle.solver.specs.Slices.{Placed}
 use Rattle.solver.proofs.Placing.{placed_none, placed_next}
 use Rattle.solver.proofs.vectors.placed.Goals as goal
