@@ -433,6 +433,7 @@ def cases():
         part("prime_part", b"P", 64, gap, 96, 7),
         part("octet_part", b"B", 64, gap, 70, 8),
         part("few_frames", b"P", 64, list(range(64)), 30, 9),
+        part("few_frames_octets", b"B", 40, list(range(40)), 36, 13),
         zero_sums(10),
         # 5 and 5 + 7 = 12; then 2 * 5 + 7 is not 18.
         small("two_minutes", [b"O,P,2", b"F,5,0,1", b"F,12,0,1,1,1"], (b"profile,2,0,1", b"solved,whole,2,5,5,7")),
@@ -441,6 +442,8 @@ def cases():
             [b"O,P,2", b"F,5,0,1", b"F,12,0,1,1,1", b"F,18,0,2,1,1"],
             (b"profile,2,0,1", b"contradiction,2,6,65520,65520,1"),
         ),
+        # Minute 0 becomes the pivot column, and minute 1 is free.
+        small("first_column", [b"O,P,2", b"F,3,0,1,1,1"], (b"profile,1,0", b"solved,part,1,3,3,0")),
         # The rows (1,1), (2,2), (0,1) have the profile 0, 2.
         small(
             "twice_a_row",
@@ -464,6 +467,12 @@ def cases():
             "one_minute_octets",
             [b"O,B,1", b"F,256,0,256", b"F,1,0,258", b"F,2,0,4"],
             (b"profile,1,1", b"solved,whole,1,3,142"),
+        ),
+        # 65521 is 241 in the octets and 65535 is 255.
+        small(
+            "large_words_octets",
+            [b"O,B,1", b"F,65521,0,65521", b"F,65535,0,65535"],
+            (b"profile,1,0", b"solved,whole,1,3,1"),
         ),
         small(
             "one_minute_dispute",
