@@ -7,7 +7,11 @@ declares. Builds bench/settle.rs, with its module settle_baseline.rs, in
 /tmp/settle_bench. First checks that it gives the outcomes of second/profile.py
 on the stored logs and on logs made at random, and with a library that both
 sides give the same. Then times the settle of an hour of 64 minutes and 96
-frames of 16 terms, in each field. It needs rustc, and with a library cc.
+frames of 16 terms, in each field.
+
+Printed: the median over runs that are processes of their own, with the lowest
+and the highest in brackets. Other work on the machine slows both sides of a run
+alike, so each ratio is that of one run. It needs rustc, and with a library cc.
 """
 
 import argparse
@@ -31,7 +35,7 @@ PROGRAM = os.path.join(FOLDER, "settle")
 TIMED = {"prime": "prime_full_frames", "octets": "octet_full_frames"}
 RANDOM_LOGS = 400
 SEED = 64
-RUNS = 5
+RUNS = 15
 LINE = re.compile(r"(.*?): (.*)")
 TIME = re.compile(r"(library|plain Rust) (\d+) ns")
 

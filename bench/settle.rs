@@ -8,16 +8,14 @@
 
 mod settle_baseline;
 
-use settle_baseline::{
-    settle_words, Octets, Prime, ANSWER, CONTRADICTION, MINUTES, PART, ROWS, WHOLE,
-};
+use settle_baseline::{settle_words, Octets, Prime, ANSWER, CONTRADICTION, PART, WHOLE};
 use std::hint::black_box;
 use std::time::Instant;
 
 const ROUNDS: usize = 60;
 const ROUND_SECONDS: f64 = 0.01;
 
-/// The other side. Words and answers are those of `settle_words`.
+// The other side. Words and answers are those of `settle_words`.
 #[cfg(library)]
 extern "C" {
     fn prime_settle(hour: *const u16, hour_len: usize, answer: *mut u16, answer_len: usize);
@@ -65,7 +63,8 @@ fn read_log(path: &str) -> Hour {
     let mut hour = Hour { name: path.to_string(), octets: false, words: Vec::new() };
     for line in text.lines() {
         let fields: Vec<&str> = line.split(',').collect();
-        let numbers = |from: usize| fields[from..].iter().map(|field| field.parse::<u16>().unwrap());
+        let numbers =
+            |from: usize| fields[from..].iter().map(|field| field.parse::<u16>().unwrap());
         if fields[0] == "O" {
             hour.octets = fields[1] == "B";
             hour.words.extend(numbers(2));
@@ -94,7 +93,6 @@ fn line_of(hour: &Hour, answer: &Answer) -> String {
         CONTRADICTION => ("contradiction", row_count(&hour.words)),
         kind => panic!("{}: an answer of kind {kind}", hour.name),
     };
-    assert!(count <= MINUTES.max(ROWS));
     let words = answer[1..3 + count].iter().map(u16::to_string).collect::<Vec<_>>();
     format!("{head},{}", words.join(","))
 }

@@ -1,9 +1,9 @@
 //! A settle with the scan in plain Rust, for comparing speed: a module of
 //! settle.rs. The rules are in docs/RECEIVER.md.
 
-pub const MINUTES: usize = 64;
-pub const ROWS: usize = 96;
-pub const TERMS: usize = 16;
+const MINUTES: usize = 64;
+const ROWS: usize = 96;
+const TERMS: usize = 16;
 
 /// How many words an answer may take: the longest is a contradiction's.
 pub const ANSWER: usize = 3 + ROWS;
@@ -36,7 +36,11 @@ impl Field for Prime {
     }
 
     fn negative(a: u16) -> u16 {
-        if a == 0 { 0 } else { Self::Q - a }
+        if a == 0 {
+            0
+        } else {
+            Self::Q - a
+        }
     }
 
     fn times(a: u16, b: u16) -> u16 {
@@ -225,9 +229,8 @@ impl Hour {
 
     /// The value of one column.
     fn column_value<F: Field>(&self, u: &[u16; ROWS], column: usize) -> u16 {
-        self.factors(u).fold(0, |total, (row, factor)| {
-            F::plus(total, F::times(factor, row.weight(column)))
-        })
+        self.factors(u)
+            .fold(0, |total, (row, factor)| F::plus(total, F::times(factor, row.weight(column))))
     }
 }
 
@@ -332,7 +335,14 @@ impl Pivots {
 
     /// One pivot more, by four blocks; `w` is the inverse of what the row leaves
     /// at the column.
-    fn grow<F: Field>(&mut self, hour: &Hour, row: usize, column: usize, vb: &[u16; MINUTES], w: u16) {
+    fn grow<F: Field>(
+        &mut self,
+        hour: &Hour,
+        row: usize,
+        column: usize,
+        vb: &[u16; MINUTES],
+        w: u16,
+    ) {
         let ba = self.times::<F>(&self.gather(|row| hour.rows[row].weight(column)));
         let len = self.len;
         for (inverse, &value) in self.inverse[..len].iter_mut().zip(&ba) {
