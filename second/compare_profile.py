@@ -2,10 +2,10 @@
 
     compare_profile.py [LOGS [SEED]]    from the repository's root, once crates/profile/out/profile is built
 
-A log opens an hour, often a small one, and takes frames, most of which fit its levels. Some weights come from a few words
-only, so that many frames depend on others. Lines are damaged, doubled and put in between. Some input is given through
-a pipe in small pieces. The last lines for small hours are also held to profile_check.py. Where the program is not built,
-only the second implementation is checked.
+A log opens an hour, often a small one, and takes frames, most of which fit its levels. Some weights come from a few
+words only, so that many frames depend on others. Lines are damaged, and lines are put in between. Some input is given
+through a pipe in small pieces. The last lines of short logs are also held to profile_check.py. Where the program is not
+built, only the second implementation is checked.
 """
 
 import os

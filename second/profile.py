@@ -2,9 +2,9 @@
 
     profile.py <LOG    from any folder
 
-Reads a log of one hour from standard input: O,field,width opens it, F,sum,minute,weight,.. is a frame. Writes one answer
-per line read. Where an hour was opened, two lines follow: the row rank profile of its frames, and the outcome of the run
-with the scan. The matrix is kept whole, and products of octets are those of fieldtable.py, without tables of logarithms.
+Reads a log of one hour from standard input: O,field,width opens it, F,sum,minute,weight,.. is a frame. Writes one
+answer per line read. Where an hour was opened, two lines follow: the row rank profile of its frames, and the outcome of
+the run with the scan. The matrix is kept whole, and products of octets are those of fieldtable.py, without tables.
 """
 
 import functools

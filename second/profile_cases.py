@@ -3,8 +3,8 @@
     profile_cases.py FOLDER [--check]         writes FOLDER/NAME/stdin and FOLDER/NAME/stdout for each log
     profile_cases.py FOLDER NAME [--check]    writes FOLDER/stdin and FOLDER/stdout of that log alone
 
-A log has one hour, since a second O line is refused. With --check, profile.py has to give the same, and profile_check.py
-has to find the last two lines right.
+A log has one hour, since a second O line is refused. With --check, profile.py has to give the same answers, and
+profile_check.py has to find the last two lines right.
 
 Answers to refused lines are literal text, and so is the whole answer to a small log. In an hour of levels that its
 frames determine, the solved levels are those that the frames were made from. Only the last lines that are left come
@@ -325,7 +325,8 @@ class Hour:
 
 
 class Case:
-    """The lines with their answers. An end that is None is left to profile.py, one that ends in a comma begins the line."""
+    """The lines with their answers, and the last two lines: None is left to profile.py, and so is what follows a text
+    that ends in a comma."""
 
     def __init__(self, name, lines, ends=(None, None), last_newline=True):
         self.name = name
@@ -367,8 +368,8 @@ def full_frames(name, letter, seed):
 
 
 def dispute(name, letter, width, wrong, early, seed):
-    """One frame of a good hour has a sum that is 1 too much: another frame times a code where it is found out early, and
-    else a frame of its own, which is found out once all minutes are pivot columns."""
+    """One frame of a good hour has a sum that is 1 too much. Found out early it is another frame times a code; else it
+    is a frame of its own, found out once all minutes are pivot columns."""
     hour = Hour(letter, width, seed)
     hour.open()
     hour.gather(wrong)

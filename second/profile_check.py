@@ -3,10 +3,10 @@
     profile_check.py LOG ANSWERS
 
 It takes from ANSWERS which lines of LOG were accepted, and calculates with fields of its own: octets by powers and
-logarithms, inverses by powers. A row is in the profile exactly where the rank of the rows up to it is greater than that of
-the rows before it, each rank by an elimination of its own. The run is done again with every x and u solved for anew, so
-without any inverse of a matrix. And what the outcome says has to hold: a solved x satisfies all rows, whole means that the
-rank is the width, and a contradiction's u makes each column 0 and the sums not.
+logarithms, inverses by powers. A row is in the profile exactly where the rank of the rows up to it is greater than that
+of the rows before it, each rank by an elimination of its own. The run is done again with every x and u solved for anew,
+so without any inverse of a matrix. And what the outcome says has to hold: a solved x satisfies all rows, whole means as
+many pivots as minutes and no more than the rank, and a contradiction's u makes each column 0 and the sums not.
 """
 
 import sys
