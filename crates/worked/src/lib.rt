@@ -6,6 +6,8 @@ pub mod facts;
 #[cfg(test)]
 mod row_tests;
 pub mod sevens;
+#[cfg(test)]
+mod solver_tests;
 
 #[cfg(test)]
 mod tests {

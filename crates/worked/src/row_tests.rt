@@ -16,7 +16,7 @@ use rows::values::{entry, row_value};
 use std::process::Abort;
 use std::test::Fail;
 
-fn table(width: usize) -> Result<Table, Fail> {
+pub(crate) fn table(width: usize) -> Result<Table, Fail> {
     Ok(Table::new(Width::try_from(width).ok().ok_or("width")?))
 }
 
@@ -25,7 +25,7 @@ fn cap<L: Ledger + Drop>(number: usize, below: L) -> Result<Cap<L>, Fail> {
 }
 
 // Takes the frame of these terms.
-fn take<L: Ledger>(ledger: &mut L, sum: u16, terms: &[Term]) -> Result<usize, Refusal> {
+pub(crate) fn take<L: Ledger>(ledger: &mut L, sum: u16, terms: &[Term]) -> Result<usize, Refusal> {
     ledger.take(&Frame::check(sum, terms)?)
 }
 

@@ -3,12 +3,14 @@ use Rattle.std.proofs.Common.{refl}
 use Rattle.field.specs.Operations.{first_from, reciprocal, inverse}
 use Rattle.field.specs.Octets.{product, remainder, octet_times, power}
 use Rattle.field.specs.Sums.{Σ}
+use Rattle.algebra.specs.Vectors.{δ}
 use Rattle.algebra.specs.Profiles.{with_row, eliminate}
 use Rattle.rows.specs.Values.{weighted}
+use Rattle.solver.specs.Runs.{run}
 use Rattle.worked.proofs.facts.worked_facts.Goals as goal
 
 pub returns : goal.returns
-unfolding first_from reciprocal inverse product remainder octet_times power Σ weighted with_row eliminate
+unfolding first_from reciprocal inverse product remainder octet_times power Σ weighted with_row eliminate δ run
 returns c =
     record {
       prime_product = refl;
@@ -21,4 +23,6 @@ returns c =
       last_column = refl;
       third_row_noted = refl;
       profile = refl;
+      contradiction = refl;
+      blame = refl;
     }
