@@ -8,8 +8,9 @@ use Rattle.lines.specs.Answers.{answer_to}
 use Rattle.lines.specs.Fields.{Whole, on_first, split}
 use Rattle.lines.specs.Writing.{Appends}
 use Rattle.lines.proofs.Cuts.{split_last, split_more, split_some}
+use Rattle.lines.proofs.Fronts.{front_answer}
 use Rattle.framelog.specs.Lines.{answered, unfinished, answer_last, Holds, Grows, Keeps, Ended, Finishes, Checks}
-use Rattle.framelog.proofs.Kept.{front_front, front_answer}
+use Rattle.framelog.proofs.Kept.{front_front}
 
 -- the last part of one list and the first of another are one part
 abbrev glue : List (List ℕ) → List (List ℕ) → List (List ℕ)

@@ -18,9 +18,12 @@ mod tests {
     use frame::refusals::{Layer, Refusal};
     use frame::terms::Term;
     use framelog::logs::{LogCheck, check_log};
-    use lines::answers::answer;
+    use lines::answers::{answer, write_answer};
+    use lines::entries::{Entry, read_entry};
+    use lines::kinds::LineKind;
     use lines::numbers::number;
-    use lines::reading::read_frame;
+    use lines::openings::{FieldName, Opening};
+    use lines::reading::{line_kind, read_frame};
     use lines::writing::write_frame;
     use std::alloc::{AllocError, Global};
     use std::process::Abort;
@@ -82,6 +85,54 @@ mod tests {
         let mut line = Vec::new(rt.alloc());
         write_frame(&mut line, &frame)?;
         assert!(rt; line.as_slice() == b"F,12,0,1,1,2".as_slice());
+        Ok(())
+    }
+
+    #[test]
+    fn openings_are_read(rt: HostRuntime) -> Result<(), Fail> {
+        let Ok(Entry::Open(opening)) = read_entry(b"O,B,65535") else {
+            return Err(Fail::new("refused"));
+        };
+        let wanted = Opening {
+            field: FieldName::Octets,
+            width: 65535,
+        };
+        assert_eq!(rt; opening, wanted);
+        let Ok(Entry::Frame(frame)) = read_entry(b"F,12,0,1") else {
+            return Err(Fail::new("refused"));
+        };
+        assert_eq!(rt; frame.frame().sum(), 12);
+        Ok(())
+    }
+
+    fn refused(line: &[u8]) -> Option<Refusal> {
+        read_entry(line).err()
+    }
+
+    #[test]
+    fn lines_of_each_kind_are_refused(rt: HostRuntime) {
+        assert_eq!(rt; refused(b"S"), Some(Refusal::UnknownLine));
+        assert_eq!(rt; refused(b"o,P,7"), Some(Refusal::UnknownLine));
+        assert_eq!(rt; refused(b"O,Q"), Some(Refusal::FieldCount));
+        assert_eq!(rt; refused(b"O,P,7,7"), Some(Refusal::FieldCount));
+        assert_eq!(rt; refused(b"O,F,x"), Some(Refusal::BadField(2)));
+        assert_eq!(rt; refused(b"O,P,x"), Some(Refusal::BadField(4)));
+        assert_eq!(rt; refused(b"F,5,0,0"), Some(Refusal::ZeroWeight(0)));
+        assert_eq!(rt; line_kind(b"O,Q"), Some(LineKind::Open));
+        assert_eq!(rt; line_kind(b"FF"), None);
+    }
+
+    #[test]
+    fn answers_are_written(rt: HostRuntime) -> Result<(), Fail> {
+        let mut out = Vec::new(rt.alloc());
+        write_answer(&mut out, Some(LineKind::Open), Ok(7))?;
+        write_answer(&mut out, Some(LineKind::Open), Err(Refusal::UnknownLine))?;
+        write_answer(&mut out, None, Err(Refusal::UnknownLine))?;
+        write_answer(&mut out, Some(LineKind::Frame), Err(Refusal::LedgerFull))?;
+        assert!(rt;
+            out.as_slice()
+                == b"O,ok,7\nO,refused,line,13,0\n?,refused,line,13,0\nF,refused,block,5,0\n".as_slice()
+        );
         Ok(())
     }
 
