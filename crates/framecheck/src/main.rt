@@ -1,7 +1,8 @@
 //! Answers each line of a log of frames on standard input: the frame's line again, or its refusal.
 #![tactic(auto)]
 
-use framelog::logs::LogCheck;
+use framelog::checks::FrameCheck;
+use framelog::logs::Log;
 use std::io;
 use std::io::Read;
 
@@ -10,7 +11,7 @@ fn main(rt: HostRuntime) -> io::Result<()> {
     let output = rt.stdout();
     // Lent to `read`, which says how much of it is new.
     let mut chunk = [0; 65536];
-    let mut check = LogCheck::new();
+    let mut log = Log::new(FrameCheck);
     let mut text = Vec::new(rt.alloc());
     // The bound is for the proof that the loop ends: no input is that long.
     for _ in 0..u64::MAX {
@@ -18,10 +19,10 @@ fn main(rt: HostRuntime) -> io::Result<()> {
         if count == 0 {
             break;
         }
-        check.feed(&mut text, &chunk[..count])?;
+        log.feed(&mut text, &chunk[..count])?;
         output.write_all(&text)?;
         text.clear();
     }
-    check.finish(&mut text)?;
+    log.finish(&mut text)?;
     output.write_all(&text)
 }

@@ -17,7 +17,8 @@ mod tests {
     use frame::checks::check_terms;
     use frame::refusals::{Layer, Refusal};
     use frame::terms::Term;
-    use framelog::logs::{LogCheck, check_log};
+    use framelog::checks::FrameCheck;
+    use framelog::logs::{Log, answer_log};
     use lines::answers::{answer, write_answer};
     use lines::entries::{Entry, read_entry};
     use lines::kinds::LineKind;
@@ -155,14 +156,14 @@ mod tests {
 
     #[test]
     fn chunks_may_cut_a_line(rt: HostRuntime) -> Result<(), Fail> {
-        let mut check_of_log = LogCheck::new();
+        let mut log = Log::new(FrameCheck);
         let mut out = Vec::new(rt.alloc());
-        check_of_log.feed(&mut out, b"F,5,0")?;
-        check_of_log.feed(&mut out, b",1\n\nF,1,0,1")?;
-        check_of_log.finish(&mut out)?;
+        log.feed(&mut out, b"F,5,0")?;
+        log.feed(&mut out, b",1\n\nF,1,0,1")?;
+        log.finish(&mut out)?;
         assert!(rt; out.as_slice() == b"F,5,0,1\n?,refused,line,13,0\nF,1,0,1\n".as_slice());
         let mut whole = Vec::new(rt.alloc());
-        check_log(&mut whole, b"F,5,0,1\n\nF,1,0,1")?;
+        answer_log(FrameCheck, &mut whole, b"F,5,0,1\n\nF,1,0,1")?;
         assert!(rt; whole.as_slice() == out.as_slice());
         Ok(())
     }
