@@ -6,3 +6,4 @@ pub mod buffers;
 pub mod checks;
 pub mod logs;
 pub mod parts;
+pub mod streams;

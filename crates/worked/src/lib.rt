@@ -17,6 +17,7 @@ mod tests {
     use frame::checks::check_terms;
     use frame::refusals::{Layer, Refusal};
     use frame::terms::Term;
+    use framelog::answerers::Answerer;
     use framelog::checks::FrameCheck;
     use framelog::logs::{Log, answer_log};
     use lines::answers::{answer, write_answer};
@@ -26,6 +27,8 @@ mod tests {
     use lines::openings::{FieldName, Opening};
     use lines::reading::{line_kind, read_frame};
     use lines::writing::write_frame;
+    use profilelog::sessions::Session;
+    use rows::reading::Rows;
     use std::alloc::{AllocError, Global};
     use std::process::Abort;
     use std::test::Fail;
@@ -165,6 +168,41 @@ mod tests {
         let mut whole = Vec::new(rt.alloc());
         answer_log(FrameCheck, &mut whole, b"F,5,0,1\n\nF,1,0,1")?;
         assert!(rt; whole.as_slice() == out.as_slice());
+        Ok(())
+    }
+
+    // What the lines of a log answer that ends in the middle of one.
+    #[test]
+    fn a_session_opens_one_hour(rt: HostRuntime) -> Result<(), Fail> {
+        let mut out = Vec::new(rt.alloc());
+        let log = b"F,5,0,1\nO,P,65\nO,P,2\nO,B\nF,5,0,1\nF\nF,5,2,1\nS\nF,12,0,1,1,1";
+        let session = answer_log(Session::new(), &mut out, log)?;
+        let wanted =
+            b"F,refused,line,13,0\nO,refused,block,16,0\nO,ok,2\nO,refused,line,13,0\nF,ok,0\nF,refused,line,14,0\nF,refused,block,2,0\n?,refused,line,13,0\nF,ok,1\n";
+        assert!(rt; out.as_slice() == wanted.as_slice());
+        let hour = session.hour().ok_or("no hour")?;
+        assert_eq!(rt; hour.field(), FieldName::Prime);
+        assert_eq!(rt; hour.width(), 2);
+        assert_eq!(rt; hour.rows().row_count(), 2);
+        Ok(())
+    }
+
+    fn full(mut session: Session, heap: Global) -> Result<Vec<u8>, AllocError> {
+        let mut out = Vec::new(heap);
+        session.answer(&mut out, b"O,B,1")?;
+        for _ in 0..96 {
+            session.answer(&mut out, b"F,0,0,1")?;
+        }
+        out.clear();
+        session.answer(&mut out, b"F,0,0,1")?;
+        session.answer(&mut out, b"F,0,63,1")?;
+        Ok(out)
+    }
+
+    #[test]
+    fn a_session_has_room_for_96_rows(rt: HostRuntime) -> Result<(), Fail> {
+        let out = full(Session::new(), rt.alloc())?;
+        assert!(rt; out.as_slice() == b"F,refused,block,5,0\nF,refused,block,2,0\n".as_slice());
         Ok(())
     }
 
