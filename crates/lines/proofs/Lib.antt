@@ -6,5 +6,5 @@ pub mod Exact
 mod Ends
 mod Exits
 pub mod Fronts
-mod Opened
+pub mod Opened
 mod Turns

@@ -108,6 +108,27 @@ carries_back None fs c h = absurd (err_ok _ _ h)
 carries_back (Some kinds.Open) fs c h = absurd (err_ok _ _ h)
 carries_back (Some kinds.Frame) fs c h = ap (map_ok carries) h
 
+-- a line is of the kind that says what it says
+abbrev pub kind_said : Said → LineKind
+kind_said (opens o) = kinds.Open
+kind_said (carries c) = kinds.Frame
+
+opens_only : {E : Type 0} (r : Result Opening E) (entry : Said) → map_ok opens r ≡ Ok entry → kinds.Open ≡ kind_said entry
+opens_only (Ok o) entry h = let e : opens o ≡ entry = cc in ap kind_said e
+opens_only (Err e) entry h = absurd (err_ok _ _ h)
+
+carries_only : {E : Type 0} (r : Result Content E) (entry : Said) → map_ok carries r ≡ Ok entry → kinds.Frame ≡ kind_said entry
+carries_only (Ok c) entry h = let e : carries c ≡ entry = cc in ap kind_said e
+carries_only (Err e) entry h = absurd (err_ok _ _ h)
+
+said_by_kind : (k : Option LineKind) (fs : List Field) (entry : Said) → by_kind k fs ≡ Ok entry → k ≡ Some (kind_said entry)
+said_by_kind None fs entry h = absurd (err_ok _ _ h)
+said_by_kind (Some kinds.Open) fs entry h = ap Some (opens_only (read_opening fs) entry h)
+said_by_kind (Some kinds.Frame) fs entry h = ap Some (carries_only (read_fields fs) entry h)
+
+pub kind_read : (line : List ℕ) (entry : Said) → read_entry line ≡ Ok entry → line_kind line ≡ Some (kind_said entry)
+kind_read line entry = said_by_kind (line_kind line) _ entry
+
 pub reads_entry : (line : List ℕ) (r : Result Said Refusal) → r ≡ read_entry line → ReadsEntry line r
 reads_entry line r is =
     record {

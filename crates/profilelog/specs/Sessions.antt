@@ -14,7 +14,6 @@ use Rattle.lines.proofs.Fronts.{front_kind, front_entry}
 use Rattle.rows.specs.Systems.{Row}
 use Rattle.rows.specs.Ledgers.{take_answer}
 use Rattle.framelog.specs.Machines.{Machine, KnowsFronts}
-use Rattle.profilelog.specs.declared.sessions.Session.{Session}
 use Rattle.profilelog.specs.Hours.{OpenHour, opened, filled}
 
 -- whether a line of this kind is in turn: an hour is opened once, and frames come behind
@@ -74,10 +73,10 @@ after_heard hour (Err e) = hour
 abbrev pub after_line : Option OpenHour → List ℕ → Option OpenHour
 after_line hour line = after_heard hour (heard hour line)
 
-abbrev pub session_machine : Machine Session
+abbrev pub session_machine : Machine (Option OpenHour)
 session_machine = record {
-  output = λ session line. answer_line (line_kind line) (line_answer session.hour line) ++ 10 ∷ [];
-  next = λ session line. record { hour = after_line session.hour line };
+  output = λ hour line. answer_line (line_kind line) (line_answer hour line) ++ 10 ∷ [];
+  next = after_line;
 }
 
 -- a line is heard as its front is
@@ -86,6 +85,6 @@ front_heard hour line = λ i. heard_as hour (front_kind line i) (front_entry lin
 
 pub knows_fronts : KnowsFronts session_machine
 knows_fronts = record {
-  output = λ session line i. answer_line (front_kind line i) (and_then (front_heard session.hour line i) (entry_answer session.hour)) ++ 10 ∷ [];
-  next = λ session line i. record { hour = after_heard session.hour (front_heard session.hour line i) };
+  output = λ hour line i. answer_line (front_kind line i) (and_then (front_heard hour line i) (entry_answer hour)) ++ 10 ∷ [];
+  next = λ hour line i. after_heard hour (front_heard hour line i);
 }

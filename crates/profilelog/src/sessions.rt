@@ -5,6 +5,7 @@ ghost use Rattle.lines.specs.Reading.{map_ok};
 ghost use Rattle.lines.specs.Entries.{said};
 ghost use Rattle.lines.specs.Kinds.{line_kind};
 ghost use Rattle.rows.specs.Ledgers.{row_of};
+ghost use Rattle.profilelog.specs.Laws.{SessionLaws};
 ghost use Rattle.profilelog.specs.Sessions.{in_turn, heard, open_answer, after_open, frame_answer, after_frame, line_answer, after_line, session_machine, knows_fronts};
 
 use super::hours::Hour;
@@ -17,6 +18,7 @@ use lines::kinds::LineKind;
 use lines::openings::Opening;
 use lines::reading::{MOST_BYTES, line_kind};
 use std::alloc::AllocError;
+use std::marker::Model;
 
 // The lines so far: the hour that they opened, once one did.
 #[derive(Drop)]
@@ -24,24 +26,34 @@ pub struct Session {
     hour: Option<Hour>,
 }
 
+// Contracts see a session as that hour.
+impl Model for Session {
+    ghost use Rattle.std.specs.Prelude.{Option};
+    ghost use Rattle.profilelog.specs.Hours.{OpenHour};
+
+    ghost Value = { Option OpenHour };
+
+    ghost view = { λ session. session.hour };
+}
+
 impl Session {
     // No hour is open.
     pub fn new() -> Session
-        ensures { result.hour ≡ None }
+        ensures { result ≡ None }
     {
         Session { hour: None }
     }
 
     // The hour that is open; none before a line opened one.
     pub fn hour(&self) -> Option<&Hour>
-        ensures { option_map (λ hour. hour.now) result ≡ self.now.hour }
+        ensures { option_map (λ hour. hour.now) result ≡ self.now }
     {
         self.hour.as_ref()
     }
 
     // Whether a line of this kind is in turn: an hour is opened once, and frames come behind.
     fn in_turn(&self, kind: LineKind) -> bool
-        ensures { result ≡ in_turn self.now.hour kind }
+        ensures { result ≡ in_turn self.now kind }
     {
         match kind {
             LineKind::Open => self.hour.is_none(),
@@ -52,7 +64,7 @@ impl Session {
     // What a line of this kind says in its turn. Out of turn it is refused (13), whatever it says.
     fn hear(&self, kind: Option<LineKind>, line: &[u8]) -> Result<Entry, Refusal>
         requires { kind ≡ line_kind line.now }
-        ensures { map_ok said result ≡ heard self.now.hour line.now }
+        ensures { map_ok said result ≡ heard self.now line.now }
     {
         match kind {
             Some(kind) if self.in_turn(kind) => read_entry(line),
@@ -63,7 +75,7 @@ impl Session {
     // Opens an hour and returns its width.
     fn open(&mut self, opening: Opening) -> Result<usize, Refusal>
         ensures answer { result ≡ open_answer opening }
-        ensures after { self.new.hour ≡ after_open self.old.hour opening }
+        ensures after { self.new ≡ after_open self.old opening }
     {
         let hour = Hour::open(opening)?;
         let width = hour.width();
@@ -73,8 +85,8 @@ impl Session {
 
     // Takes a frame into the hour and returns its row's number.
     fn take(&mut self, frame: &Frame<'_>) -> Result<usize, Refusal>
-        ensures answer { result ≡ frame_answer self.old.hour (row_of frame.now) }
-        ensures after { self.new.hour ≡ after_frame self.old.hour (row_of frame.now) }
+        ensures answer { result ≡ frame_answer self.old (row_of frame.now) }
+        ensures after { self.new ≡ after_frame self.old (row_of frame.now) }
     {
         self.hour.as_mut().ok_or(Refusal::UnknownLine)?.take(frame)
     }
@@ -82,8 +94,8 @@ impl Session {
     // Does what a line of this kind says, and returns the number that its answer has.
     fn take_line(&mut self, kind: Option<LineKind>, line: &[u8]) -> Result<usize, Refusal>
         requires { kind ≡ line_kind line.now }
-        ensures answer { result ≡ line_answer self.old.hour line.now }
-        ensures after { self.new.hour ≡ after_line self.old.hour line.now }
+        ensures answer { result ≡ line_answer self.old line.now }
+        ensures after { self.new ≡ after_line self.old line.now }
     {
         match self.hear(kind, line)? {
             Entry::Open(opening) => self.open(opening),
@@ -91,6 +103,11 @@ impl Session {
         }
     }
 }
+
+// Which lines are accepted, and what they leave.
+pub fn session_laws()
+    ensures { SessionLaws }
+{}
 
 impl Answerer for Session {
     ghost machine = { session_machine };
