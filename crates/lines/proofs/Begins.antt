@@ -10,29 +10,32 @@ use Rattle.lines.specs.Kinds.{kind_letter, kind_of, line_kind}
 use Rattle.lines.specs.Tokens.{letter_of, first_letter}
 use Rattle.lines.proofs.Cuts.{split-join, join-split}
 
--- what one of two letters chooses has that letter
+-- a field that is a letter
+picked : (a b : Bool) (x y : ℕ) → cond a (cond b (Some x) None) None ≡ Some y → x ≡ y
+picked true true x y h = cc
+picked true false x y h = absurd (none-some y h)
+picked false b x y h = absurd (none-some y h)
+
+letter_is : (p : List ℕ) (l : ℕ) → letter_of p ≡ Some l → p ≡ l ∷ []
+letter_is [] l h = absurd (none-some l h)
+letter_is (b ∷ []) l h = ap (λ c. c ∷ []) (picked (leb 65 b) (leb b 90) b l h)
+letter_is (b ∷ c ∷ cs) l h = absurd (none-some l h)
+
+-- what a letter chooses has that letter: the first of some, or one of the rest
 module _ {K : Type 0} (letter : K → ℕ) where
-  chosen_by : (x y k : K) (l : ℕ) (a b : Bool) → (a ≡ true → l ≡ letter x) → (b ≡ true → l ≡ letter y) → cond a (Some x) (cond b (Some y) None) ≡ Some k → l ≡ letter k
-  chosen_by x y k l true b p q h = let e : x ≡ k = cc in p refl ∙ ap letter e
-  chosen_by x y k l false true p q h = let e : y ≡ k = cc in q refl ∙ ap letter e
-  chosen_by x y k l false false p q h = absurd (none-some k h)
+  chosen_by : (x k : K) (l : ℕ) (b : Bool) (rest : Option K) → (b ≡ true → l ≡ letter x) → (rest ≡ Some k → l ≡ letter k) → cond b (Some x) rest ≡ Some k → l ≡ letter k
+  chosen_by x k l true rest first others h = let e : x ≡ k = cc in first refl ∙ ap letter e
+  chosen_by x k l false rest first others h = others h
 
-  pub chosen : (x y k : K) (l : ℕ) → cond (eqb l (letter x)) (Some x) (cond (eqb l (letter y)) (Some y) None) ≡ Some k → l ≡ letter k
-  chosen x y k l = chosen_by x y k l (eqb l (letter x)) (eqb l (letter y)) (eqb-true l (letter x)) (eqb-true l (letter y))
+  pub chosen : (x k : K) (l : ℕ) (rest : Option K) → (rest ≡ Some k → l ≡ letter k) → cond (eqb l (letter x)) (Some x) rest ≡ Some k → l ≡ letter k
+  chosen x k l rest = chosen_by x k l (eqb l (letter x)) rest (eqb-true l (letter x))
 
-  picked : (a b : Bool) (x y : ℕ) → cond a (cond b (Some x) None) None ≡ Some y → x ≡ y
-  picked true true x y h = cc
-  picked true false x y h = absurd (none-some y h)
-  picked false b x y h = absurd (none-some y h)
-
-  letter_is : (p : List ℕ) (l : ℕ) → letter_of p ≡ Some l → p ≡ l ∷ []
-  letter_is [] l h = absurd (none-some l h)
-  letter_is (b ∷ []) l h = ap (λ c. c ∷ []) (picked (leb 65 b) (leb b 90) b l h)
-  letter_is (b ∷ c ∷ cs) l h = absurd (none-some l h)
-
-  -- a field that chooses is that letter
+  -- so a field that chooses is that letter
   pub field_is : (of : ℕ → Option K) → ((k : K) (l : ℕ) → of l ≡ Some k → l ≡ letter k) → (p : List ℕ) (k : K) → option_and_then of (letter_of p) ≡ Some k → p ≡ letter k ∷ []
   field_is of back p k h = option_and_then_some of (letter_of p) k h (λ l is e. letter_is p l is ∙ ap (λ c. c ∷ []) (back k l e))
+
+kind_back : (k : LineKind) (l : ℕ) → kind_of l ≡ Some k → l ≡ kind_letter k
+kind_back k l = chosen kind_letter Open k l _ (chosen kind_letter Frame k l _ (λ h. absurd (none-some k h)))
 
 -- the line has this kind, and its parts behind the letter are `parts`
 pub record Begins (line : List ℕ) (k : LineKind) : Type 0 where
@@ -43,7 +46,7 @@ pub record Begins (line : List ℕ) (k : LineKind) : Type 0 where
 begun : (line : List ℕ) (k : LineKind) (qs : List (List ℕ)) → split 44 line ≡ qs → option_and_then kind_of (first_letter (placed 0 qs)) ≡ Some k → Begins line k
 begun line k [] cut h = absurd (none-some k h)
 begun line k (p ∷ ps) cut h =
-    let is = field_is kind_letter kind_of (chosen kind_letter Open Frame) p k h in
+    let is = field_is kind_letter kind_of kind_back p k h in
     record {
       parts = ps;
       is = sym (join-split 44 line) ∙ ap (join 44) cut ∙ ap (λ q. join 44 (q ∷ ps)) is;

@@ -3,6 +3,7 @@ use Rattle.std.proofs.Common.{◌≡◌, ℕ, ◌<◌, ◌≤◌, List, [], ◌�
 use Rattle.std.specs.Option.{option_and_then, ok_or}
 use Rattle.std.proofs.lemmas.Fmt.{length-decimal-le}
 use Rattle.std.proofs.lemmas.Bool.{eqb-true}
+use Rattle.std.proofs.lemmas.Option.{none-some}
 use Rattle.frame.specs.declared.refusals.Refusal.{Refusal}
 use Rattle.frame.proofs.Apart.{err_ok}
 use Rattle.lines.specs.declared.kinds.LineKind.{LineKind}
@@ -31,6 +32,9 @@ both_passed (Err e) n o h = absurd (err_ok _ _ h)
 both_passed (Ok name) (Err e) o h = absurd (err_ok _ _ h)
 both_passed (Ok name) (Ok w) o h = let e : opening name w ≡ o = cc in (ap (λ p. Ok p.field) e, ap (λ p. Ok p.width) e)
 
+name_back : (name : FieldName) (l : ℕ) → name_of l ≡ Some name → l ≡ name_letter name
+name_back name l = chosen name_letter Prime name l _ (chosen name_letter Octets name l _ (λ h. absurd (none-some name h)))
+
 -- the parts behind the letter, and back
 fields_only : (ps : List (List ℕ)) (at : ℕ) (o : Opening) → read_opening (placed at ps) ≡ Ok o → (o.width < 65536) × (ps ≡ (name_letter o.field ∷ []) ∷ decimal o.width ∷ [])
 fields_only [] at o h = absurd (err_ok _ _ h)
@@ -39,13 +43,13 @@ fields_only (p ∷ q ∷ r ∷ ps) at o h =
     let two = eqb-true (length (placed at (p ∷ q ∷ r ∷ ps))) 2 (opened _ _ _ o h).0 in absurd (omega arith)
 fields_only (p ∷ q ∷ []) at o h =
     let got = both_passed (first_name (placed at (p ∷ q ∷ []))) (first_number (drop 1 (placed at (p ∷ q ∷ [])))) o h in
-    let name = field_is name_letter name_of (chosen name_letter Prime Octets) p o.field (passed _ _ _ got.0) in
+    let name = field_is name_letter name_of name_back p o.field (passed _ _ _ got.0) in
     let width = number_reads q o.width (passed _ _ _ got.1) in
     (width.0, (λ i. name i ∷ width.1 i ∷ []))
 
-name_back : (name : FieldName) → option_and_then name_of (letter_of (name_letter name ∷ [])) ≡ Some name
-name_back Prime = refl
-name_back Octets = refl
+letter_name : (name : FieldName) → option_and_then name_of (letter_of (name_letter name ∷ [])) ≡ Some name
+letter_name Prime = refl
+letter_name Octets = refl
 
 name_whole : (name : FieldName) → Whole 44 (name_letter name ∷ [])
 name_whole Prime = one_whole 80 (λ e. omega arith)
@@ -57,7 +61,7 @@ module _ (o : Opening) where
   parts = (name_letter o.field ∷ []) ∷ decimal o.width ∷ []
 
   fields_each : (at : ℕ) → o.width < 65536 → read_opening (placed at parts) ≡ Ok o
-  fields_each at word = rw (name_back o.field, number_written (decimal o.width) o.width word refl) refl
+  fields_each at word = rw (letter_name o.field, number_written (decimal o.width) o.width word refl) refl
 
   whole : o.width < 65536 → AllWhole 44 parts
   whole word = (name_whole o.field, (decimal_whole o.width word, tt))

@@ -1,4 +1,4 @@
-//! The reader of a frame's line.
+//! The kind of a line, and the reader of a frame's line.
 ghost use Rattle.std.specs.Prelude.{◌≡◌, ◌+◌, length, drop};
 ghost use Rattle.lines.specs.Tokens.{to_come, first_letter};
 ghost use Rattle.lines.specs.Kinds.{line_kind};
