@@ -1,27 +1,11 @@
 //! Answers each line of a log of frames on standard input: the frame's line again, or its refusal.
 #![tactic(auto)]
 
-use framelog::logs::LogCheck;
+use framelog::checks::FrameCheck;
+use framelog::streams::answer_input;
 use std::io;
-use std::io::Read;
 
 fn main(rt: HostRuntime) -> io::Result<()> {
-    let mut input = rt.stdin();
-    let output = rt.stdout();
-    // Lent to `read`, which says how much of it is new.
-    let mut chunk = [0; 65536];
-    let mut check = LogCheck::new();
-    let mut text = Vec::new(rt.alloc());
-    // The bound is for the proof that the loop ends: no input is that long.
-    for _ in 0..u64::MAX {
-        let count = input.read(&mut chunk)?;
-        if count == 0 {
-            break;
-        }
-        check.feed(&mut text, &chunk[..count])?;
-        output.write_all(&text)?;
-        text.clear();
-    }
-    check.finish(&mut text)?;
-    output.write_all(&text)
+    answer_input(&rt, FrameCheck)?;
+    Ok(())
 }

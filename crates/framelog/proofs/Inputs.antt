@@ -1,15 +1,15 @@
 -- How the lines of an input grow with it. Assumes nothing.
 use Rattle.std.proofs.Common.{◌≡◌, ℕ, ◌<◌, eqb, List, [], ◌∷◌, ◌++◌, length, take, Ok, Err, vec_items, Result, Vec, sym, refl, ap, ◌∙◌, subst, ⊎_elim, append_assoc, append-nil, arith}
-use Rattle.std.proofs.lemmas.List.{length-take, take_all}
+use Rattle.std.proofs.lemmas.List.{take_all}
 use Rattle.std.proofs.lemmas.Bool.{eq-eqb, ne_eqb, cond-true, cond-false, cases_eq}
 use Rattle.std.specs.declared.alloc.Global.{Global}
 use Rattle.std.specs.declared.alloc.AllocError.{AllocError}
-use Rattle.lines.specs.Answers.{answer_to}
 use Rattle.lines.specs.Fields.{Whole, on_first, split}
-use Rattle.lines.specs.Writing.{Appends}
 use Rattle.lines.proofs.Cuts.{split_last, split_more, split_some}
-use Rattle.framelog.specs.Lines.{answered, unfinished, answer_last, Holds, Grows, Keeps, Ended, Finishes, Checks}
-use Rattle.framelog.proofs.Kept.{front_front, front_answer}
+use Rattle.framelog.specs.declared.logs.Log.{Log}
+use Rattle.framelog.specs.Machines.{Machine, KnowsFronts}
+use Rattle.framelog.specs.Lines.{unfinished, answered, state_after, Holds, Grows, Keeps, Finishes, AnswersAll}
+use Rattle.framelog.proofs.Kept.{front_front}
 
 -- the last part of one list and the first of another are one part
 abbrev glue : List (List ℕ) → List (List ℕ) → List (List ℕ)
@@ -48,25 +48,11 @@ split-append s (b ∷ xs) ys =
     ∙ ap (λ l. glue l (split s ys)) (sym (cond-false (eqb b s) _ _ (ne_eqb b s e))))
     (cases_eq b s)
 
--- a part without an end
-part_answered : (ls : List (List ℕ)) (m : List ℕ) → 0 < length ls → answered (glue ls (m ∷ [])) ≡ answered ls
-part_answered [] m h = absurd (omega arith)
-part_answered (l ∷ []) m h = refl
-part_answered (l ∷ k ∷ []) m h = refl
-part_answered (l ∷ k ∷ j ∷ ls) m h = ap (λ a. answer_to l ++ a) (part_answered (k ∷ j ∷ ls) m (omega arith))
-
 part_unfinished : (ls : List (List ℕ)) (m : List ℕ) → 0 < length ls → unfinished (glue ls (m ∷ [])) ≡ unfinished ls ++ m
 part_unfinished [] m h = absurd (omega arith)
 part_unfinished (l ∷ []) m h = refl
 part_unfinished (l ∷ k ∷ []) m h = refl
 part_unfinished (l ∷ k ∷ j ∷ ls) m h = part_unfinished (k ∷ j ∷ ls) m (omega arith)
-
--- a part with the end of its line
-line_answered : (ls : List (List ℕ)) (m : List ℕ) → 0 < length ls → answered (glue ls (m ∷ [] ∷ [])) ≡ answered ls ++ answer_to (unfinished ls ++ m)
-line_answered [] m h = absurd (omega arith)
-line_answered (l ∷ []) m h = append-nil (answer_to (l ++ m))
-line_answered (l ∷ k ∷ []) m h = ap (λ a. answer_to l ++ a) (append-nil (answer_to (k ++ m))) ∙ ap (λ a. a ++ answer_to (k ++ m)) (sym (append-nil (answer_to l)))
-line_answered (l ∷ k ∷ j ∷ ls) m h = ap (λ a. answer_to l ++ a) (line_answered (k ∷ j ∷ ls) m (omega arith)) ∙ sym (append_assoc (answer_to l) (answered (k ∷ j ∷ ls)) _)
 
 line_unfinished : (ls : List (List ℕ)) (m : List ℕ) → 0 < length ls → unfinished (glue ls (m ∷ [] ∷ [])) ≡ []
 line_unfinished [] m h = absurd (omega arith)
@@ -86,81 +72,115 @@ grows_more o p q a b c g h =
       answer = h.answer ∙ ap (λ l. l ++ h.text) g.answer ∙ append_assoc a g.text h.text;
     }
 
--- taking bytes one after the other
-pub keeps_more : (a b c : List ℕ) (o p q : Vec ℕ Global) (xs ys : List ℕ) → Keeps a b o p xs → Keeps b c p q ys → Keeps a c o q (xs ++ ys)
-keeps_more a b c o p q xs ys k l =
-    record {
-      holds = λ input h. subst (Holds c) (append_assoc input xs ys) (l.holds (input ++ xs) (k.holds input h));
-      grows = λ input h.
-          subst (λ all. Grows o q (answered (split 10 input)) (answered (split 10 all))) (append_assoc input xs ys)
-          (grows_more o p q _ _ _ (k.grows input h) (l.grows (input ++ xs) (k.holds input h)));
-    }
+module _ {A : Type 0} (M : Machine A) where
+  -- a part without an end
+  part_answered : (a : A) (ls : List (List ℕ)) (m : List ℕ) → 0 < length ls → answered M a (glue ls (m ∷ [])) ≡ answered M a ls
+  part_answered a [] m h = absurd (omega arith)
+  part_answered a (l ∷ []) m h = refl
+  part_answered a (l ∷ k ∷ []) m h = refl
+  part_answered a (l ∷ k ∷ j ∷ ls) m h = ap (λ t. M.output a l ++ t) (part_answered (M.next a l) (k ∷ j ∷ ls) m (omega arith))
 
--- a part of a line, with no end in it
-module _ (a b : List ℕ) (o : Vec ℕ Global) (part : List ℕ) (whole : Whole 10 part) (is : b ≡ take 257 (a ++ part)) where
-  part_cut : (input : List ℕ) → split 10 (input ++ part) ≡ glue (split 10 input) (part ∷ [])
-  part_cut input = split-append 10 input part ∙ ap (glue (split 10 input)) (split_last 10 part whole)
+  part_after : (a : A) (ls : List (List ℕ)) (m : List ℕ) → 0 < length ls → state_after M a (glue ls (m ∷ [])) ≡ state_after M a ls
+  part_after a [] m h = absurd (omega arith)
+  part_after a (l ∷ []) m h = refl
+  part_after a (l ∷ k ∷ []) m h = refl
+  part_after a (l ∷ k ∷ j ∷ ls) m h = part_after (M.next a l) (k ∷ j ∷ ls) m (omega arith)
 
-  part_holds : (input : List ℕ) → Holds a input → Holds b (input ++ part)
-  part_holds input h =
-      let lines = split 10 input in
-      is ∙ ap (λ l. take 257 (l ++ part)) h ∙ front_front 257 (unfinished lines) part ∙ ap (take 257) (sym (part_unfinished lines part (split_some 10 input)) ∙ ap unfinished (sym (part_cut input)))
+  -- a part with the end of its line
+  line_answered : (a : A) (ls : List (List ℕ)) (m : List ℕ) → 0 < length ls → answered M a (glue ls (m ∷ [] ∷ [])) ≡ answered M a ls ++ M.output (state_after M a ls) (unfinished ls ++ m)
+  line_answered a [] m h = absurd (omega arith)
+  line_answered a (l ∷ []) m h = append-nil (M.output a (l ++ m))
+  line_answered a (l ∷ k ∷ []) m h =
+      ap (λ t. M.output a l ++ t) (append-nil (M.output (M.next a l) (k ++ m))) ∙ ap (λ t. t ++ M.output (M.next a l) (k ++ m)) (sym (append-nil (M.output a l)))
+  line_answered a (l ∷ k ∷ j ∷ ls) m h =
+      ap (λ t. M.output a l ++ t) (line_answered (M.next a l) (k ∷ j ∷ ls) m (omega arith)) ∙ sym (append_assoc (M.output a l) (answered M (M.next a l) (k ∷ j ∷ ls)) _)
 
-  pub keeps_part : Keeps a b o o part
-  keeps_part =
-      record {
-        holds = part_holds;
-        grows = λ input h. grows_same o _ _ (ap answered (part_cut input) ∙ part_answered (split 10 input) part (split_some 10 input));
-      }
+  line_after : (a : A) (ls : List (List ℕ)) (m : List ℕ) → 0 < length ls → state_after M a (glue ls (m ∷ [] ∷ [])) ≡ M.next (state_after M a ls) (unfinished ls ++ m)
+  line_after a [] m h = absurd (omega arith)
+  line_after a (l ∷ []) m h = refl
+  line_after a (l ∷ k ∷ []) m h = refl
+  line_after a (l ∷ k ∷ j ∷ ls) m h = line_after (M.next a l) (k ∷ j ∷ ls) m (omega arith)
 
--- the last part of a line, and its end
-module _ (a b : List ℕ) (o p : Vec ℕ Global) (part text : List ℕ) (whole : Whole 10 part) (empty : b ≡ []) (is : text ≡ take 257 (a ++ part)) (put : vec_items p ≡ vec_items o ++ answer_to text) where
-  line_cut : (input : List ℕ) → split 10 (input ++ (part ++ 10 ∷ [])) ≡ glue (split 10 input) (part ∷ [] ∷ [])
-  line_cut input = split-append 10 input (part ++ 10 ∷ []) ∙ ap (glue (split 10 input)) (split_more 10 part [] whole)
+  -- taking bytes one after the other
+  pub keeps_more : (a b c : Log A) (o p q : Vec ℕ Global) (xs ys : List ℕ) → Keeps M a b o p xs → Keeps M b c p q ys → Keeps M a c o q (xs ++ ys)
+  keeps_more a b c o p q xs ys k l = record {
+    holds = λ start input h. subst (Holds M start c) (append_assoc input xs ys) (l.holds start (input ++ xs) (k.holds start input h));
+    grows = λ start input h.
+        subst (λ all. Grows o q (answered M start (split 10 input)) (answered M start (split 10 all))) (append_assoc input xs ys)
+        (grows_more o p q _ _ _ (k.grows start input h) (l.grows start (input ++ xs) (k.holds start input h)));
+  }
 
-  line_grows : (input : List ℕ) → Holds a input → Grows o p (answered (split 10 input)) (answered (split 10 (input ++ (part ++ 10 ∷ []))))
-  line_grows input h =
-      let lines = split 10 input in
-      let line : answer_to text ≡ answer_to (unfinished lines ++ part) = ap answer_to (is ∙ ap (λ l. take 257 (l ++ part)) h ∙ front_front 257 (unfinished lines) part) ∙ front_answer (unfinished lines ++ part) in
-      record {
-        text = answer_to text;
-        output = put;
-        answer = ap answered (line_cut input) ∙ line_answered lines part (split_some 10 input) ∙ ap (λ l. answered lines ++ l) (sym line);
-      }
+  pub keeps_none : (a : Log A) (o : Vec ℕ Global) → Keeps M a a o o []
+  keeps_none a o = record {
+    holds = λ start input h. subst (Holds M start a) (sym (append-nil input)) h;
+    grows = λ start input h. grows_same o _ _ (ap (λ i. answered M start (split 10 i)) (append-nil input));
+  }
 
-  pub keeps_line : Keeps a b o p (part ++ 10 ∷ [])
-  keeps_line =
-      record {
-        holds = λ input h. empty ∙ ap (take 257) (sym (line_unfinished (split 10 input) part (split_some 10 input)) ∙ ap unfinished (sym (line_cut input)));
-        grows = line_grows;
-      }
+  -- a part of a line, with no end in it
+  module _ (a b : Log A) (o : Vec ℕ Global) (part : List ℕ) (whole : Whole 10 part) (is : b.line ≡ take 257 (a.line ++ part)) (same : b.answerer ≡ a.answerer) where
+    part_cut : (input : List ℕ) → split 10 (input ++ part) ≡ glue (split 10 input) (part ∷ [])
+    part_cut input = split-append 10 input part ∙ ap (glue (split 10 input)) (split_last 10 part whole)
 
--- the end of the input
-last_some : (u : List ℕ) → 0 < length u → answer_last u ≡ answer_to u
-last_some [] h = absurd (omega arith)
-last_some (b ∷ u) h = refl
+    part_holds : (start : A) (input : List ℕ) → Holds M start a input → Holds M start b (input ++ part)
+    part_holds start input h =
+        let lines = split 10 input in
+        record {
+          line = is ∙ ap (λ l. take 257 (l ++ part)) h.line ∙ front_front 257 (unfinished lines) part ∙ ap (take 257) (sym (part_unfinished lines part (split_some 10 input)) ∙ ap unfinished (sym (part_cut input)));
+          state = same ∙ h.state ∙ sym (part_after start lines part (split_some 10 input)) ∙ ap (state_after M start) (sym (part_cut input));
+        }
 
-ended_last : (held : List ℕ) (o p : Vec ℕ Global) → (length held ≡ 0 → ⊥) → vec_items p ≡ vec_items o ++ answer_to held → Ended held o p
-ended_last held o p some put = record {
-  grows = λ input h.
-      let u = unfinished (split 10 input) in
-      let long : 0 < length u = omega (arith, some, ap length h, length-take 257 u) in
-      let last : answer_to held ≡ answer_last u = ap answer_to h ∙ front_answer u ∙ sym (last_some u long) in
-      record { text = answer_to held; output = put; answer = ap (λ l. answered (split 10 input) ++ l) (sym last) };
-}
+    pub keeps_part : Keeps M a b o o part
+    keeps_part =
+        record {
+          holds = part_holds;
+          grows = λ start input h. grows_same o _ _ (ap (answered M start) (part_cut input) ∙ part_answered start (split 10 input) part (split_some 10 input));
+        }
 
-pub finishes : (held : List ℕ) (o p : Vec ℕ Global) (r : Result (Unit {0}) AllocError) → (length held ≡ 0 → ⊥) → Appends o p (answer_to held) 257 r → Finishes held o p r
-finishes held o p (Ok _) some put = ended_last held o p some put
-finishes held o p (Err e) some put = put
+  module _ (F : KnowsFronts M) where
+    -- the last part of a line, and its end
+    module _ (a b : Log A) (o p : Vec ℕ Global) (part text : List ℕ) (whole : Whole 10 part) (empty : b.line ≡ []) (is : text ≡ take 257 (a.line ++ part)) (put : (vec_items p ≡ vec_items o ++ M.output a.answerer text) × (b.answerer ≡ M.next a.answerer text)) where
+      line_cut : (input : List ℕ) → split 10 (input ++ (part ++ 10 ∷ [])) ≡ glue (split 10 input) (part ∷ [] ∷ [])
+      line_cut input = split-append 10 input (part ++ 10 ∷ []) ∙ ap (glue (split 10 input)) (split_more 10 part [] whole)
 
--- a whole log, from its start
-module _ (a b : List ℕ) (o p : Vec ℕ Global) (start : Holds a []) where
-  pub log_answered : (bytes : List ℕ) → Keeps a b o p bytes → vec_items p ≡ vec_items o ++ answered (split 10 bytes)
-  log_answered bytes k = let g = k.grows [] start in g.output ∙ ap (λ l. vec_items o ++ l) (sym g.answer)
+      module _ (start : A) (input : List ℕ) (h : Holds M start a input) where
+        front : text ≡ take 257 (unfinished (split 10 input) ++ part)
+        front = is ∙ ap (λ l. take 257 (l ++ part)) h.line ∙ front_front 257 (unfinished (split 10 input)) part
 
-  pub log_checked : (q : Vec ℕ Global) (log : List ℕ) (r : Result (Unit {0}) AllocError) → Keeps a b o p log → Finishes b p q r → Checks o q log r
-  log_checked q log (Ok _) k e =
-      let g = grows_more o p q _ _ _ (k.grows [] start) (e.grows log (k.holds [] start)) in
-      g.output ∙ ap (λ l. vec_items o ++ l) (sym g.answer)
-  log_checked q log (Err _) k none =
-      (length log, p, log_answered log k ∙ ap (λ l. vec_items o ++ answered (split 10 l)) (sym (take_all (length log) log (omega arith))), none.0, none.1)
+        line_grows : Grows o p (answered M start (split 10 input)) (answered M start (split 10 (input ++ (part ++ 10 ∷ []))))
+        line_grows =
+            let lines = split 10 input in
+            let line : M.output a.answerer text ≡ M.output (state_after M start lines) (unfinished lines ++ part) = (λ i. M.output (h.state i) (front i)) ∙ F.output (state_after M start lines) (unfinished lines ++ part) in
+            record {
+              text = M.output a.answerer text;
+              output = put.0;
+              answer = ap (answered M start) (line_cut input) ∙ line_answered start lines part (split_some 10 input) ∙ ap (λ l. answered M start lines ++ l) (sym line);
+            }
+
+        line_holds : Holds M start b (input ++ (part ++ 10 ∷ []))
+        line_holds =
+            let lines = split 10 input in
+            record {
+              line = empty ∙ ap (take 257) (sym (line_unfinished lines part (split_some 10 input)) ∙ ap unfinished (sym (line_cut input)));
+              state =
+                  put.1
+                  ∙ (λ i. M.next (h.state i) (front i))
+                  ∙ F.next (state_after M start lines) (unfinished lines ++ part)
+                  ∙ sym (line_after start lines part (split_some 10 input))
+                  ∙ ap (state_after M start) (sym (line_cut input));
+            }
+
+      pub keeps_line : Keeps M a b o p (part ++ 10 ∷ [])
+      keeps_line = record { holds = line_holds; grows = line_grows }
+
+  -- a whole log, from its start
+  module _ (start : A) (a b : Log A) (o p : Vec ℕ Global) (begun : Holds M start a []) where
+    pub log_answered : (bytes : List ℕ) → Keeps M a b o p bytes → vec_items p ≡ vec_items o ++ answered M start (split 10 bytes)
+    log_answered bytes k = let g = k.grows start [] begun in g.output ∙ ap (λ l. vec_items o ++ l) (sym g.answer)
+
+    pub all_answered : (q : Vec ℕ Global) (bytes : List ℕ) (r : Result A AllocError) → Keeps M a b o p bytes → Finishes M b p q r → AnswersAll M start o q bytes r
+    all_answered q bytes (Ok end) k e =
+        let held = k.holds start [] begun in
+        let g = grows_more o p q _ _ _ (k.grows start [] begun) (e.grows start bytes held) in
+        (g.output ∙ ap (λ l. vec_items o ++ l) (sym g.answer), e.state start bytes held)
+    all_answered q bytes (Err _) k none =
+        (length bytes, p, log_answered bytes k ∙ ap (λ l. vec_items o ++ answered M start (split 10 l)) (sym (take_all (length bytes) bytes (omega arith))), none.0, none.1)

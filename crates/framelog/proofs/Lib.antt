@@ -1,3 +1,3 @@
+mod Chunks
 mod Inputs
 mod Kept
-mod Parts

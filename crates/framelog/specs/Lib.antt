@@ -1,1 +1,4 @@
+pub mod Checks
 pub mod Lines
+pub mod Machines
+pub mod Parts

@@ -1,24 +1,26 @@
 -- Each frame has one line, and reading takes that line, and no other, to that frame. Assumes nothing.
-use Rattle.std.proofs.Common.{◌≡◌, ℕ, zero, suc, ◌+◌, ◌*◌, ◌%◌, ◌<◌, ◌≤◌, Bool, true, false, cond, eqb, leb, List, [], ◌∷◌, map, length, drop, Some, None, Ok, Err, decimal, Option, Result, sym, refl, ap, ◌∙◌, subst, le_of_suc-le-suc, not-suc-le-zero, arith, length-append}
+use Rattle.std.proofs.Common.{◌≡◌, ℕ, zero, suc, ◌+◌, ◌*◌, ◌%◌, ◌<◌, ◌≤◌, Bool, true, false, cond, eqb, List, [], ◌∷◌, map, length, drop, Some, None, Ok, Err, decimal, Option, Result, sym, refl, ap, ◌∙◌, subst, le_of_suc-le-suc, not-suc-le-zero, arith, length-append}
 use Rattle.std.specs.Option.{ok_or}
 use Rattle.std.proofs.lemmas.Fmt.{length-decimal-le}
 use Rattle.std.proofs.lemmas.List.{length-map}
-use Rattle.std.proofs.lemmas.Bool.{eqb-true, le-leb, eq-eqb, cond-true}
+use Rattle.std.proofs.lemmas.Bool.{eqb-true, eq-eqb, cond-true}
 use Rattle.frame.specs.declared.terms.Term.{Term}
 use Rattle.frame.specs.declared.refusals.Refusal.{Refusal}
 use Rattle.frame.specs.Frames.{minute_at, weight_at, check}
-use Rattle.std.proofs.lemmas.Option.{none-some}
 use Rattle.frame.proofs.Apart.{err_ok}
 use Rattle.frame.proofs.Decides.{check_sound, check_complete}
 use Rattle.frame.specs.declared.frames.Frame.{Frame}
 use Rattle.frame.specs.Parts.{sum_of, terms_of}
 use Rattle.lines.specs.Writing.{OneLine}
-use Rattle.lines.specs.Fields.{Whole, AllWhole, split, parted, join, Field, placed}
+use Rattle.lines.specs.declared.kinds.LineKind.{LineKind}
+use Rattle.lines.specs.declared.kinds.LineKind.TheVariants as kinds
+use Rattle.lines.specs.Fields.{AllWhole, parted, join, Field, placed, fields_of}
 use Rattle.lines.specs.Frames.{flat, line_of, IsFrame}
 use Rattle.lines.specs.Numbers.{number_of}
-use Rattle.lines.specs.Tokens.{letter_of}
-use Rattle.lines.specs.Reading.{Content, content, map_ok, and_then, numbers, first_letter, pairs, checked, frame_of, read_fields, by_letter, read, ReadsFrame}
-use Rattle.lines.proofs.Cuts.{split-join, join-split, length-placed}
+use Rattle.lines.specs.Kinds.{line_kind}
+use Rattle.lines.specs.Reading.{Content, content, map_ok, and_then, numbers, pairs, checked, frame_of, read_fields, frame_only, read, ReadsFrame}
+use Rattle.lines.proofs.Begins.{begins, written_kind, written_rest}
+use Rattle.lines.proofs.Cuts.{length-placed}
 use Rattle.lines.proofs.Digits.{number_reads, number_written, decimal_whole}
 use Rattle.lines.proofs.Exits.{pairs-flat}
 
@@ -73,10 +75,6 @@ all_whole : (ns : List ℕ) → Words ns → AllWhole 44 (map decimal ns)
 all_whole [] w = tt
 all_whole (n ∷ ns) w = (decimal_whole n w.0, all_whole ns w.1)
 
-letter_whole : Whole 44 (70 ∷ [])
-letter_whole zero h e = omega arith
-letter_whole (suc k) h e = absurd (omega arith)
-
 frame_words : (s : ℕ) (ts : List Term) → IsFrame s ts → Words (s ∷ flat ts)
 frame_words s ts f = (f.word, terms_words ts f.terms.below f.terms.words)
 
@@ -95,14 +93,15 @@ line_short s ts f =
     let rest = terms_short ts f.terms.below f.terms.words in
     simp length-append (omega (arith, f.terms.few))
 
--- what a reading that gives a frame has passed
-opened : (b : Bool) (x : Result Content Refusal) (e : Refusal) (c : Content) → cond b x (Err e) ≡ Ok c → (b ≡ true) × (x ≡ Ok c)
+-- what a reading that gives something has passed
+pub opened : {X E : Type 0} (b : Bool) (x : Result X E) (e : E) (c : X) → cond b x (Err e) ≡ Ok c → (b ≡ true) × (x ≡ Ok c)
 opened true x e c h = (refl, h)
 opened false x e c h = absurd (err_ok _ _ h)
 
-letter_read : (o : Option ℕ) (fs : List Field) (c : Content) → by_letter o fs ≡ Ok c → (o ≡ Some 70) × (read_fields fs ≡ Ok c)
-letter_read None fs c h = absurd (err_ok _ _ h)
-letter_read (Some l) fs c h = let p = opened (eqb l 70) (read_fields fs) _ c h in (ap Some (eqb-true l 70 p.0), p.1)
+kind_read : (k : Option LineKind) (fs : List Field) (c : Content) → frame_only k fs ≡ Ok c → (k ≡ Some kinds.Frame) × (read_fields fs ≡ Ok c)
+kind_read None fs c h = absurd (err_ok _ _ h)
+kind_read (Some kinds.Open) fs c h = absurd (err_ok _ _ h)
+kind_read (Some kinds.Frame) fs c h = (refl, h)
 
 numbers_passed : (r : Result (List ℕ) Refusal) (c : Content) → and_then r frame_of ≡ Ok c → (ns : List ℕ) × (r ≡ Ok ns) × (frame_of ns ≡ Ok c)
 numbers_passed (Ok ns) c h = (ns, refl, h)
@@ -118,22 +117,10 @@ frame_passed (n ∷ ms) s ts h =
     let p = check_passed (check (pairs ms)) (content n (pairs ms)) (content s ts) h in
     (ms, ap (λ c. c.sum ∷ ms) p.1, ap (λ c. c.terms) p.1, p.0)
 
-picked : (a b : Bool) (x y : ℕ) → cond a (cond b (Some x) None) None ≡ Some y → x ≡ y
-picked true true x y h = cc
-picked true false x y h = absurd (none-some y h)
-picked false b x y h = absurd (none-some y h)
-
-letter_is : (p : List ℕ) → letter_of p ≡ Some 70 → p ≡ 70 ∷ []
-letter_is [] h = absurd (none-some 70 h)
-letter_is (b ∷ []) h = ap (λ c. c ∷ []) (picked (leb 65 b) (leb b 90) b 70 h)
-letter_is (b ∷ c ∷ cs) h = absurd (none-some 70 h)
-
-parts_only : (s : ℕ) (ts : List Term) (line : List ℕ) (qs : List (List ℕ)) → split 44 line ≡ qs → by_letter (first_letter (placed 0 qs)) (drop 1 (placed 0 qs)) ≡ Ok (content s ts) → IsFrame s ts × (line ≡ line_of s ts)
-parts_only s ts line [] cut h = absurd (none-some 70 (letter_read None [] _ h).0)
-parts_only s ts line (p ∷ ps) cut h =
-    let at = suc (0 + length p) in
-    let known = letter_read (letter_of p) (placed at ps) _ h in
-    let odd = opened (eqb (length (placed at ps) % 2) 1) _ _ _ known.1 in
+-- the parts behind the letter, and back
+fields_only : (ps : List (List ℕ)) (at s : ℕ) (ts : List Term) → read_fields (placed at ps) ≡ Ok (content s ts) → IsFrame s ts × (ps ≡ map decimal (s ∷ flat ts))
+fields_only ps at s ts h =
+    let odd = opened (eqb (length (placed at ps) % 2) 1) _ _ _ h in
     let got = numbers_passed (numbers (placed at ps)) _ odd.1 in
     let ns = got.0 in
     let is = numbers_read ps at ns got.1 in
@@ -147,11 +134,8 @@ parts_only s ts line (p ∷ ps) cut h =
         word = words.0;
         terms = check_sound ts (words_weights ts words.1) (subst (λ l. check l ≡ Ok tt) frame.2 frame.3);
       },
-      sym (join-split 44 line) ∙ ap (join 44) cut ∙ ap (λ q. join 44 (q ∷ ps)) (letter_is p known.0) ∙ ap (λ l. join 44 ((70 ∷ []) ∷ l)) (is.0 ∙ ap (map decimal) back),
+      is.0 ∙ ap (map decimal) back,
     )
-
-pub line_only : (line : List ℕ) (s : ℕ) (ts : List Term) → read line ≡ Ok (content s ts) → IsFrame s ts × (line ≡ line_of s ts)
-line_only line s ts h = parts_only s ts line (split 44 line) refl (opened (leb (length line) 256) _ _ _ h).1
 
 fields_each : (s : ℕ) (ts : List Term) (at : ℕ) → IsFrame s ts → read_fields (placed at (map decimal (s ∷ flat ts))) ≡ Ok (content s ts)
 fields_each s ts at f =
@@ -163,12 +147,21 @@ fields_each s ts at f =
     ∙ ap (checked s) (pairs-flat ts)
     ∙ ap (map_ok (λ _. content s ts)) (check_complete ts f.terms)
 
+-- the whole line, and back
+pub line_only : (line : List ℕ) (s : ℕ) (ts : List Term) → read line ≡ Ok (content s ts) → IsFrame s ts × (line ≡ line_of s ts)
+line_only line s ts h =
+    let known = kind_read (line_kind line) _ _ h in
+    let b = begins line kinds.Frame known.0 in
+    let frame = fields_only b.parts 2 s ts (ap read_fields (sym b.rest) ∙ known.1) in
+    (frame.0, b.is ∙ ap (λ ps. join 44 ((70 ∷ []) ∷ ps)) frame.1)
+
 pub line_each : (s : ℕ) (ts : List Term) → IsFrame s ts → read (line_of s ts) ≡ Ok (content s ts)
 line_each s ts f =
-    let short = line_short s ts f in
-    cond-true (leb (length (line_of s ts)) 256) _ _ (le-leb (length (line_of s ts)) 256 short)
-    ∙ ap (λ qs. by_letter (first_letter (placed 0 qs)) (drop 1 (placed 0 qs))) (split-join 44 (70 ∷ []) (map decimal (s ∷ flat ts)) (letter_whole, all_whole (s ∷ flat ts) (frame_words s ts f)))
-    ∙ fields_each s ts _ f
+    let parts = map decimal (s ∷ flat ts) in
+    let whole = all_whole (s ∷ flat ts) (frame_words s ts f) in
+    ap (λ k. frame_only k (drop 1 (fields_of (line_of s ts)))) (written_kind kinds.Frame parts whole (line_short s ts f))
+    ∙ ap read_fields (written_rest kinds.Frame parts whole)
+    ∙ fields_each s ts 2 f
 
 pub reads_frame : (line : List ℕ) (r : Result Content Refusal) → r ≡ read line → ReadsFrame line r
 reads_frame line r is =

@@ -1,15 +1,15 @@
 -- The reader's exits: what each says of the fields behind the letter. Assumes nothing.
-use Rattle.std.proofs.Common.{◌≡◌, ℕ, ◌%◌, ◌<◌, ◌≤◌, eqb, leb, List, [], ◌∷◌, length, take, drop, Ok, Err, sym, refl, ap, ◌∙◌, arith}
+use Rattle.std.proofs.Common.{◌≡◌, ℕ, ◌%◌, ◌<◌, ◌≤◌, eqb, List, [], ◌∷◌, length, take, drop, Ok, Err, sym, refl, ap, ◌∙◌, arith}
 use Rattle.std.proofs.lemmas.List.{take_all}
-use Rattle.std.proofs.lemmas.Bool.{eq-eqb, lt-leb, cond-true, cond-false}
+use Rattle.std.proofs.lemmas.Bool.{eq-eqb, cond-true}
 use Rattle.frame.specs.declared.terms.Term.{Term}
 use Rattle.frame.specs.declared.refusals.Refusal.{Refusal}
-use Rattle.frame.specs.declared.refusals.Refusal.TheVariants.{TermCount, UnknownLine}
+use Rattle.frame.specs.declared.refusals.Refusal.TheVariants.{TermCount}
 use Rattle.frame.specs.Frames.{check}
 use Rattle.frame.proofs.Decides.{refuses_many}
 use Rattle.lines.specs.Fields.{Field}
 use Rattle.lines.specs.Frames.{flat}
-use Rattle.lines.specs.Reading.{content, map_ok, and_then, numbers, first_number, pairs, checked, frame_of, read_fields, read}
+use Rattle.lines.specs.Reading.{content, map_ok, and_then, numbers, first_number, pairs, checked, frame_of, read_fields}
 use Rattle.lines.proofs.Turns.{numbers_more}
 
 pub pairs-flat : (ts : List Term) → pairs (flat ts) ≡ ts
@@ -37,7 +37,3 @@ module _ (fs : List Field) (count : ℕ) (all : count ≡ length fs) (odd : coun
 
     pub frame_read : Ok tt ≡ check kept → Ok (content s ts) ≡ read_fields fs
     frame_read ok = ap (map_ok (λ _. content s ts)) (ok ∙ ap check all_kept) ∙ all_read
-
--- the whole line, by its length and its letter
-pub long_refused : (line : List ℕ) → 256 < length line → Err UnknownLine ≡ read line
-long_refused line h = sym (cond-false (leb (length line) 256) _ _ (lt-leb (length line) 256 h))

@@ -1,12 +1,15 @@
--- What a log check answers to a line. Assumes nothing.
-use Rattle.std.specs.Prelude.{◌≡◌, ℕ, cond, List, [], ◌∷◌, ◌++◌, Ok, Err, codes, decimal, Result, ◌==◌}
+-- The answers to lines. Assumes nothing.
+use Rattle.std.specs.Prelude.{◌≡◌, ℕ, cond, List, [], ◌∷◌, ◌++◌, Some, None, Ok, Err, codes, decimal, Option, Result, ◌==◌}
 use Rattle.frame.specs.declared.terms.Term.{Term}
 use Rattle.frame.specs.declared.refusals.Layer.{Layer}
 use Rattle.frame.specs.declared.refusals.Layer.TheVariants.{Line, Frame, Block}
 use Rattle.frame.specs.declared.refusals.Refusal.{Refusal}
 use Rattle.frame.specs.Refusals.{refusal_number, refusal_place, refusal_layer}
+use Rattle.lines.specs.declared.kinds.LineKind.{LineKind}
+use Rattle.lines.specs.declared.kinds.LineKind.TheVariants as kinds
 use Rattle.lines.specs.Fields.{join}
 use Rattle.lines.specs.Frames.{line_of, IsFrame}
+use Rattle.lines.specs.Kinds.{shown_letter}
 use Rattle.lines.specs.Reading.{Content, read}
 
 abbrev pub layer_name : Layer → List ℕ
@@ -14,20 +17,29 @@ layer_name Line = codes "line"
 layer_name Frame = codes "frame"
 layer_name Block = codes "block"
 
--- the letter of the line refused: F, or a question mark where the line's kind is unknown, which is 13
-abbrev pub letter_for : Refusal → ℕ
-letter_for r = cond (refusal_number r == 13) 63 70
-
 -- letter, refused, layer, number, place
-abbrev pub refused_line : Refusal → List ℕ
-refused_line r = join 44 ((letter_for r ∷ []) ∷ codes "refused" ∷ layer_name (refusal_layer r) ∷ decimal (refusal_number r) ∷ decimal (refusal_place r) ∷ [])
+abbrev pub refused_line : Option LineKind → Refusal → List ℕ
+refused_line kind r = join 44 ((shown_letter kind ∷ []) ∷ codes "refused" ∷ layer_name (refusal_layer r) ∷ decimal (refusal_number r) ∷ decimal (refusal_place r) ∷ [])
+
+-- letter, ok, number
+abbrev pub accepted_line : Option LineKind → ℕ → List ℕ
+accepted_line kind n = join 44 ((shown_letter kind ∷ []) ∷ codes "ok" ∷ decimal n ∷ [])
+
+-- the answer to a line of this kind: accepted with a number, or refused
+abbrev pub answer_line : Option LineKind → Result ℕ Refusal → List ℕ
+answer_line kind (Ok n) = accepted_line kind n
+answer_line kind (Err r) = refused_line kind r
+
+-- the kind of a line that a log check refuses: a frame's, or unknown, which is 13
+abbrev pub kind_refused : Refusal → Option LineKind
+kind_refused r = cond (refusal_number r == 13) None (Some kinds.Frame)
 
 -- a frame's own line, or the refusal
 abbrev pub answer_of : Result Content Refusal → List ℕ
 answer_of (Ok c) = line_of c.sum c.terms
-answer_of (Err r) = refused_line r
+answer_of (Err r) = refused_line (kind_refused r) r
 
--- the answer to a line, with the byte that ends it
+-- a log check's answer to a line, with the byte that ends it
 abbrev pub answer_to : List ℕ → List ℕ
 answer_to line = answer_of (read line) ++ 10 ∷ []
 

@@ -1,7 +1,10 @@
 pub mod Answers
+pub mod Entries
 pub mod Fields
 pub mod Frames
+pub mod Kinds
 pub mod Numbers
+pub mod Openings
 pub mod Reading
 pub mod Tokens
 pub mod Writing

@@ -1,5 +1,5 @@
 -- Reading the line of a frame: what is refused, in which order, and what else it says. Assumes nothing.
-use Rattle.std.specs.Prelude.{◌≡◌, ℕ, ◌%◌, cond, List, [], ◌∷◌, length, take, drop, Some, None, Ok, Err, Option, Result, MatchResult, ◌==◌, nat_le}
+use Rattle.std.specs.Prelude.{◌≡◌, ℕ, ◌%◌, cond, List, [], ◌∷◌, length, take, drop, Some, None, Ok, Err, Option, Result, MatchOption, MatchResult, ◌==◌}
 use Rattle.std.specs.Option.{ok_or}
 use Rattle.arrayvec.specs.ArrayVec.{ArrayVec}
 use Rattle.frame.specs.declared.terms.Term.{Term}
@@ -8,10 +8,14 @@ use Rattle.frame.specs.declared.refusals.Refusal.TheVariants.{UnknownLine, Field
 use Rattle.frame.specs.declared.buffers.FrameBuf.{FrameBuf}
 use Rattle.frame.specs.Frames.{check}
 use Rattle.frame.specs.Owned.{sum_in, terms_in}
+use Rattle.lines.specs.declared.kinds.LineKind.{LineKind}
+use Rattle.lines.specs.declared.kinds.LineKind.TheVariants.{Open, Frame}
+use Rattle.lines.specs.declared.fields.Fields.{Fields}
 use Rattle.lines.specs.Fields.{Field, fields_of}
 use Rattle.lines.specs.Frames.{flat, line_of, IsFrame}
+use Rattle.lines.specs.Kinds.{line_kind}
 use Rattle.lines.specs.Numbers.{number_of}
-use Rattle.lines.specs.Tokens.{letter_of}
+use Rattle.lines.specs.Tokens.{to_come}
 
 -- what a frame's line says
 pub record Content : Type 0 where
@@ -64,19 +68,18 @@ frame_of (s ∷ ns) = checked s (pairs ns)
 abbrev pub read_fields : List Field → Result Content Refusal
 read_fields fs = cond (length fs % 2 == 1) (and_then (numbers fs) frame_of) (Err FieldCount)
 
--- the letter that the first of some fields is
-abbrev pub first_letter : List Field → Option ℕ
-first_letter [] = None
-first_letter (f ∷ fs) = letter_of f.text
+-- a line's kind, and the fields behind its letter
+abbrev pub SplitKind : List ℕ → Option (LineKind × Fields) → Type 0
+SplitKind line r = MatchOption r (line_kind line ≡ None) (λ p. (line_kind line ≡ Some p.0) × (to_come p.1 ≡ drop 1 (fields_of line)))
 
--- the letter, which is to be F, and the fields behind it
-abbrev pub by_letter : Option ℕ → List Field → Result Content Refusal
-by_letter None fs = Err UnknownLine
-by_letter (Some letter) fs = cond (letter == 70) (read_fields fs) (Err UnknownLine)
+-- the fields behind the letter of a line, which is to be a frame's
+abbrev pub frame_only : Option LineKind → List Field → Result Content Refusal
+frame_only None fs = Err UnknownLine
+frame_only (Some Open) fs = Err UnknownLine
+frame_only (Some Frame) fs = read_fields fs
 
--- a line of at most 256 bytes
 abbrev pub read : List ℕ → Result Content Refusal
-read line = cond (nat_le (length line) 256) (by_letter (first_letter (fields_of line)) (drop 1 (fields_of line))) (Err UnknownLine)
+read line = frame_only (line_kind line) (drop 1 (fields_of line))
 
 -- r is what the line says: a frame exactly where the bytes are that frame's line
 pub record ReadsFrame (line : List ℕ) (r : Result Content Refusal) : Type 0 where

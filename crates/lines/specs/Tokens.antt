@@ -13,6 +13,11 @@ letter_of [] = None
 letter_of (b ∷ []) = cond (nat_le 65 b) (cond (nat_le b 90) (Some b) None) None
 letter_of (b ∷ c ∷ cs) = None
 
+-- the letter that the first of some fields is
+abbrev pub first_letter : List Field → Option ℕ
+first_letter [] = None
+first_letter (f ∷ fs) = letter_of f.text
+
 -- what bytes say: a letter, a number, or neither
 abbrev pub KindOf : List ℕ → Kind → Type 0
 KindOf text (Letter letter) = letter_of text ≡ Some letter

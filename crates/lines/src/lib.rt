@@ -1,9 +1,12 @@
-//! Lines: bytes cut into fields, and the line that carries a frame.
+//! Lines: bytes cut into fields, and the lines that open an hour and carry a frame.
 #![tactic(auto)]
 
 pub mod answers;
+pub mod entries;
 pub mod fields;
+pub mod kinds;
 pub mod numbers;
+pub mod openings;
 pub mod parts;
 pub mod reading;
 pub mod tokens;

@@ -1,9 +1,11 @@
-//! The reader of a frame's line.
+//! The kind of a line, and the reader of a frame's line.
 ghost use Rattle.std.specs.Prelude.{◌≡◌, ◌+◌, length, drop};
-ghost use Rattle.lines.specs.Tokens.{to_come};
-ghost use Rattle.lines.specs.Reading.{content_of, map_ok, first_letter, first_number, ReadsTerms, read_fields, read, ReadsFrame};
+ghost use Rattle.lines.specs.Tokens.{to_come, first_letter};
+ghost use Rattle.lines.specs.Kinds.{line_kind};
+ghost use Rattle.lines.specs.Reading.{content_of, map_ok, SplitKind, first_number, ReadsTerms, read_fields, read, ReadsFrame};
 
 use super::fields::{Fields, count_fields};
+use super::kinds::LineKind;
 use super::tokens::Kind;
 use arrayvec::ArrayVec;
 use frame::buffers::FrameBuf;
@@ -26,8 +28,27 @@ fn read_letter(fields: &mut Fields<'_>) -> Option<char>
     }
 }
 
+// The kind of a line, and the fields behind its letter; none where the line is too long or its letter is unknown.
+pub(crate) fn split_kind(line: &[u8]) -> Option<(LineKind, Fields<'_>)>
+    ensures { SplitKind line.now result }
+{
+    if line.len() > MOST_BYTES {
+        return None;
+    }
+    let mut fields = Fields::new(line);
+    let kind = LineKind::of(read_letter(&mut fields)?)?;
+    Some((kind, fields))
+}
+
+// The kind of a line; none where it is unknown.
+pub fn line_kind(line: &[u8]) -> Option<LineKind>
+    ensures { result ≡ line_kind line.now }
+{
+    Some(split_kind(line)?.0)
+}
+
 // The number of the next field.
-fn read_number(fields: &mut Fields<'_>) -> Result<u16, Refusal>
+pub(crate) fn read_number(fields: &mut Fields<'_>) -> Result<u16, Refusal>
     ensures value { result ≡ first_number (to_come fields.old) }
     ensures rest { to_come fields.new ≡ drop 1 (to_come fields.old) }
 {
@@ -56,7 +77,7 @@ fn read_terms(mut fields: Fields<'_>, count: usize) -> Result<ArrayVec<Term, MOS
 }
 
 // The frame that the fields behind the letter write, of which there are `count`.
-fn read_fields(mut fields: Fields<'_>, count: usize) -> Result<FrameBuf, Refusal>
+pub(crate) fn read_fields(mut fields: Fields<'_>, count: usize) -> Result<FrameBuf, Refusal>
     requires { count ≡ length (to_come fields) }
     ensures { map_ok content_of result ≡ read_fields (to_come fields.entry) }
 {
@@ -78,11 +99,7 @@ pub fn read_frame(line: &[u8]) -> Result<FrameBuf, Refusal>
     ensures value { map_ok content_of result ≡ read line.now }
     ensures exact { ReadsFrame line.now (map_ok content_of result) }
 {
-    if line.len() > MOST_BYTES {
-        return Err(Refusal::UnknownLine);
-    }
-    let mut fields = Fields::new(line);
-    let Some('F') = read_letter(&mut fields) else {
+    let Some((LineKind::Frame, fields)) = split_kind(line) else {
         return Err(Refusal::UnknownLine);
     };
     read_fields(fields, count_fields(line) - 1)

@@ -19,11 +19,18 @@ mod tests {
     use frame::checks::check_terms;
     use frame::refusals::{Layer, Refusal};
     use frame::terms::Term;
-    use framelog::logs::{LogCheck, check_log};
-    use lines::answers::answer;
+    use framelog::answerers::Answerer;
+    use framelog::checks::FrameCheck;
+    use framelog::logs::{Log, answer_log};
+    use lines::answers::{answer, write_answer};
+    use lines::entries::{Entry, read_entry};
+    use lines::kinds::LineKind;
     use lines::numbers::number;
-    use lines::reading::read_frame;
+    use lines::openings::{FieldName, Opening};
+    use lines::reading::{line_kind, read_frame};
     use lines::writing::write_frame;
+    use profilelog::sessions::Session;
+    use rows::reading::Rows;
     use std::alloc::{AllocError, Global};
     use std::process::Abort;
     use std::test::Fail;
@@ -87,6 +94,54 @@ mod tests {
         Ok(())
     }
 
+    #[test]
+    fn openings_are_read(rt: HostRuntime) -> Result<(), Fail> {
+        let Ok(Entry::Open(opening)) = read_entry(b"O,B,65535") else {
+            return Err(Fail::new("refused"));
+        };
+        let wanted = Opening {
+            field: FieldName::Octets,
+            width: 65535,
+        };
+        assert_eq!(rt; opening, wanted);
+        let Ok(Entry::Frame(frame)) = read_entry(b"F,12,0,1") else {
+            return Err(Fail::new("refused"));
+        };
+        assert_eq!(rt; frame.frame().sum(), 12);
+        Ok(())
+    }
+
+    fn refused(line: &[u8]) -> Option<Refusal> {
+        read_entry(line).err()
+    }
+
+    #[test]
+    fn lines_of_each_kind_are_refused(rt: HostRuntime) {
+        assert_eq!(rt; refused(b"S"), Some(Refusal::UnknownLine));
+        assert_eq!(rt; refused(b"o,P,7"), Some(Refusal::UnknownLine));
+        assert_eq!(rt; refused(b"O,Q"), Some(Refusal::FieldCount));
+        assert_eq!(rt; refused(b"O,P,7,7"), Some(Refusal::FieldCount));
+        assert_eq!(rt; refused(b"O,F,x"), Some(Refusal::BadField(2)));
+        assert_eq!(rt; refused(b"O,P,x"), Some(Refusal::BadField(4)));
+        assert_eq!(rt; refused(b"F,5,0,0"), Some(Refusal::ZeroWeight(0)));
+        assert_eq!(rt; line_kind(b"O,Q"), Some(LineKind::Open));
+        assert_eq!(rt; line_kind(b"FF"), None);
+    }
+
+    #[test]
+    fn answers_are_written(rt: HostRuntime) -> Result<(), Fail> {
+        let mut out = Vec::new(rt.alloc());
+        write_answer(&mut out, Some(LineKind::Open), Ok(7))?;
+        write_answer(&mut out, Some(LineKind::Open), Err(Refusal::UnknownLine))?;
+        write_answer(&mut out, None, Err(Refusal::UnknownLine))?;
+        write_answer(&mut out, Some(LineKind::Frame), Err(Refusal::LedgerFull))?;
+        assert!(rt;
+            out.as_slice()
+                == b"O,ok,7\nO,refused,line,13,0\n?,refused,line,13,0\nF,refused,block,5,0\n".as_slice()
+        );
+        Ok(())
+    }
+
     fn answered(heap: Global, line: &[u8]) -> Result<Vec<u8>, AllocError> {
         let mut out = Vec::new(heap);
         answer(&mut out, line)?;
@@ -106,15 +161,50 @@ mod tests {
 
     #[test]
     fn chunks_may_cut_a_line(rt: HostRuntime) -> Result<(), Fail> {
-        let mut check_of_log = LogCheck::new();
+        let mut log = Log::new(FrameCheck);
         let mut out = Vec::new(rt.alloc());
-        check_of_log.feed(&mut out, b"F,5,0")?;
-        check_of_log.feed(&mut out, b",1\n\nF,1,0,1")?;
-        check_of_log.finish(&mut out)?;
+        log.feed(&mut out, b"F,5,0")?;
+        log.feed(&mut out, b",1\n\nF,1,0,1")?;
+        log.finish(&mut out)?;
         assert!(rt; out.as_slice() == b"F,5,0,1\n?,refused,line,13,0\nF,1,0,1\n".as_slice());
         let mut whole = Vec::new(rt.alloc());
-        check_log(&mut whole, b"F,5,0,1\n\nF,1,0,1")?;
+        answer_log(FrameCheck, &mut whole, b"F,5,0,1\n\nF,1,0,1")?;
         assert!(rt; whole.as_slice() == out.as_slice());
+        Ok(())
+    }
+
+    // What the lines of a log answer that ends in the middle of one.
+    #[test]
+    fn a_session_opens_one_hour(rt: HostRuntime) -> Result<(), Fail> {
+        let mut out = Vec::new(rt.alloc());
+        let log = b"F,5,0,1\nO,P,65\nO,P,2\nO,B\nF,5,0,1\nF\nF,5,2,1\nS\nF,12,0,1,1,1";
+        let session = answer_log(Session::new(), &mut out, log)?;
+        let wanted =
+            b"F,refused,line,13,0\nO,refused,block,16,0\nO,ok,2\nO,refused,line,13,0\nF,ok,0\nF,refused,line,14,0\nF,refused,block,2,0\n?,refused,line,13,0\nF,ok,1\n";
+        assert!(rt; out.as_slice() == wanted.as_slice());
+        let hour = session.hour().ok_or("no hour")?;
+        assert_eq!(rt; hour.field(), FieldName::Prime);
+        assert_eq!(rt; hour.width(), 2);
+        assert_eq!(rt; hour.rows().row_count(), 2);
+        Ok(())
+    }
+
+    fn full(mut session: Session, heap: Global) -> Result<Vec<u8>, AllocError> {
+        let mut out = Vec::new(heap);
+        session.answer(&mut out, b"O,B,1")?;
+        for _ in 0..96 {
+            session.answer(&mut out, b"F,0,0,1")?;
+        }
+        out.clear();
+        session.answer(&mut out, b"F,0,0,1")?;
+        session.answer(&mut out, b"F,0,63,1")?;
+        Ok(out)
+    }
+
+    #[test]
+    fn a_session_has_room_for_96_rows(rt: HostRuntime) -> Result<(), Fail> {
+        let out = full(Session::new(), rt.alloc())?;
+        assert!(rt; out.as_slice() == b"F,refused,block,5,0\nF,refused,block,2,0\n".as_slice());
         Ok(())
     }
 

@@ -1,0 +1,33 @@
+//! The reader of a line of any kind.
+ghost use Rattle.std.specs.Prelude.{◌≡◌};
+ghost use Rattle.lines.specs.Reading.{map_ok};
+ghost use Rattle.lines.specs.Entries.{said, read_entry, ReadsEntry};
+
+use super::fields::count_fields;
+use super::kinds::LineKind;
+use super::openings::{Opening, read_opening};
+use super::reading::{read_fields, split_kind};
+use frame::buffers::FrameBuf;
+use frame::refusals::Refusal;
+
+// What a line says, by its kind.
+#[derive(Clone, Copy)]
+pub enum Entry {
+    // an hour is opened
+    Open(Opening),
+    // a frame
+    Frame(FrameBuf),
+}
+
+// What a line says.
+pub fn read_entry(line: &[u8]) -> Result<Entry, Refusal>
+    ensures value { map_ok said result ≡ read_entry line.now }
+    ensures exact { ReadsEntry line.now (map_ok said result) }
+{
+    let (kind, fields) = split_kind(line).ok_or(Refusal::UnknownLine)?;
+    let count = count_fields(line) - 1;
+    match kind {
+        LineKind::Open => Ok(Entry::Open(read_opening(fields, count)?)),
+        LineKind::Frame => Ok(Entry::Frame(read_fields(fields, count)?)),
+    }
+}

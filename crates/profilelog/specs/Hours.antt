@@ -1,0 +1,22 @@
+-- What an hour is, how it is opened and how it is filled. Assumes nothing.
+use Rattle.std.specs.Prelude.{[], Result}
+use Rattle.frame.specs.declared.refusals.Refusal.{Refusal}
+use Rattle.lines.specs.declared.openings.FieldName.{FieldName}
+use Rattle.lines.specs.declared.openings.Opening.{Opening}
+use Rattle.lines.specs.Reading.{map_ok}
+use Rattle.rows.specs.Sizes.{checked}
+use Rattle.rows.specs.Systems.{Row, System}
+use Rattle.rows.specs.Ledgers.{take_answer, after_take}
+
+-- the name of the field to calculate in, and what the rows mean
+pub record OpenHour : Type 0 where
+  pub field : FieldName
+  pub system : System
+
+-- the hour that is opened, for a width of 1 to 64: it has no rows
+abbrev pub opened : Opening → Result OpenHour Refusal
+opened o = map_ok (λ width. record { field = o.field; system = record { width = width; rows = [] } }) (checked 64 o.width)
+
+-- what a table takes of a row: it has room for 96
+abbrev pub filled : OpenHour → Row → OpenHour
+filled h r = record { field = h.field; system = after_take (take_answer h.system 96 r) h.system r }

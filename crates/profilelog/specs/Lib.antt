@@ -1,0 +1,3 @@
+pub mod Hours
+pub mod Laws
+pub mod Sessions

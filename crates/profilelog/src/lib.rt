@@ -1,0 +1,5 @@
+//! The lines of a log that opens an hour and fills it with frames.
+#![tactic(auto)]
+
+pub mod hours;
+pub mod sessions;
