@@ -2,6 +2,8 @@
 
     profile_cases.py FOLDER [--check]         writes FOLDER/NAME/stdin and FOLDER/NAME/stdout for each log
     profile_cases.py FOLDER NAME [--check]    writes FOLDER/stdin and FOLDER/stdout of that log alone
+    profile_cases.py --gate [--check]         writes what the gate runs: the log refusals as standard input of profile, and
+                                              the others as files that profilecases is given by name
 
 A log has one hour, since a second O line is refused. With --check, profile.py has to give the same answers, and
 profile_check.py has to find the last two lines right.
@@ -513,10 +515,28 @@ def write(folder, case):
             file.write(content)
 
 
+def write_gate(every):
+    crates = os.path.join(os.path.dirname(os.path.dirname(os.path.abspath(__file__))), "crates")
+    files = [case for case in every if case.name != "refusals"]
+    write(os.path.join(crates, "profile"), next(case for case in every if case.name == "refusals"))
+    folder = os.path.join(crates, "profilecases")
+    os.makedirs(os.path.join(folder, "data"), exist_ok=True)
+    for case in files:
+        with open(os.path.join(folder, "data", case.name + ".log"), "wb") as file:
+            file.write(case.stdin)
+    with open(os.path.join(folder, "args"), "w") as file:
+        file.write("".join(case.name + ".log\n" for case in files))
+    with open(os.path.join(folder, "stdout"), "wb") as file:
+        file.write(b"".join(case.name.encode() + b".log\n" + case.stdout for case in files))
+
+
 def main():
     words = [word for word in sys.argv[1:] if word != "--check"]
     every = cases()
-    if len(words) == 1:
+    if words == ["--gate"]:
+        wanted = every
+        write_gate(every)
+    elif len(words) == 1:
         wanted = every
         for case in every:
             write(os.path.join(words[0], case.name), case)

@@ -1,3 +1,4 @@
 pub mod Hours
 pub mod Laws
 pub mod Sessions
+pub mod Ends

@@ -9,6 +9,7 @@ use Rattle.algebra.specs.Places.{Outside}
 use Rattle.algebra.specs.Pivots.{Pivots, PivotsOf, schur, grow}
 use Rattle.algebra.specs.Profiles.{fresh_column, with_row, eliminate}
 use Rattle.algebra.proofs.Elimination.{eliminate-Elimination}
+use Rattle.algebra.proofs.Pivots.{count-le_rows}
 use Rattle.algebra.proofs.Counting.{get_or-values}
 use Rattle.algebra.proofs.Profiles.{pivot_rows-length, rank_profile-RankProfile, RankProfile-iff_LeastLongest}
 use Rattle.solver.specs.Pivots.{SamePivots}
@@ -95,6 +96,7 @@ profiled F S P list list' same W =
     let long = pivot_rows-length F n S.width A E in
     record {
       count = same.count ∙ sym long;
+      at_most = count-le_rows F n S.width A P (eliminated_pivots F S.width A n n (omega arith) P same);
       written = record {
         long = W.long;
         done = λ k h. W.done k (omega (arith, same.count)) ∙ same.row k (omega arith) ∙ sym (get_or-values E.count E.row k 0 (omega arith));

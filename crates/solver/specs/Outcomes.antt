@@ -18,6 +18,11 @@ lie_case (Missed i) = record { number = 1; values = i ∷ [] }
 lie_case (Zero i) = record { number = 2; values = i ∷ [] }
 lie_case (Outside i) = record { number = 3; values = i ∷ [] }
 
+abbrev pub lie_place : Lie → ℕ
+lie_place (Missed i) = i
+lie_place (Zero i) = i
+lie_place (Outside i) = i
+
 abbrev pub side_case : Side → Case
 side_case sides.Row = record { number = 1; values = [] }
 side_case sides.Column = record { number = 2; values = [] }

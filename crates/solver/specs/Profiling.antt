@@ -16,6 +16,7 @@ profile_of K S = rank_profile K (length S.rows) S.width (entry K S)
 -- the rows before them, rising, and the lexicographically least of the longest lists of independent rows
 pub record Profiles (K : Operations) (S : System) (list list' : List ℕ) (number : ℕ) : Type 0 where
   pub count : number ≡ length (profile_of K S)
+  pub at_most : number ≤ length S.rows
   pub written : Filled (length (profile_of K S)) (slice_index (profile_of K S)) list list'
   pub profile : RankProfile K (length S.rows) S.width (entry K S) (profile_of K S)
   pub least : LeastLongest K (length S.rows) S.width (entry K S) (profile_of K S)

@@ -9,4 +9,5 @@ pub mod profiles;
 pub mod questions;
 pub mod runs;
 pub mod scouts;
+pub mod spaces;
 mod vectors;

@@ -1,5 +1,6 @@
 //! False answers.
 ghost use Rattle.std.specs.Prelude.{◌≡◌};
+ghost use Rattle.solver.specs.Outcomes.{lie_place};
 ghost use Rattle.solver.specs.Questions.{asked, tested, Judges};
 
 use crate::questions::Question;
@@ -15,6 +16,16 @@ pub enum Lie {
     Zero(usize),
     // there is no such place
     Outside(usize),
+}
+
+impl Lie {
+    pub fn place(&self) -> usize
+        ensures { result ≡ lie_place self.now }
+    {
+        match self {
+            Lie::Missed(place) | Lie::Zero(place) | Lie::Outside(place) => *place,
+        }
+    }
 }
 
 // An answer tested: itself where it is true, else what is false in it. Of the values one is worked out for a place, and

@@ -8,9 +8,6 @@ use field::fields::Field;
 use rows::reading::Rows;
 use rows::sizes::{MOST_MINUTES, MOST_ROWS};
 
-// How many words a work space has.
-pub const WORK_WORDS: usize = 8192;
-
 // The words of the inverse: as many rows as there can be pivots, each as long.
 const INVERSE_WORDS: usize = MOST_MINUTES * MOST_MINUTES;
 

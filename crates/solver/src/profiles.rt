@@ -7,8 +7,9 @@ ghost use Rattle.solver.specs.Pivots.{PivotsOfRows, SamePivots};
 ghost use Rattle.solver.specs.Spaces.{pivots_of};
 ghost use Rattle.solver.specs.Profiling.{ProfilesIn};
 
-use crate::pivots::{PivotSpace, WORK_WORDS};
+use crate::pivots::PivotSpace;
 use crate::questions::Question;
+use crate::spaces::WORK_WORDS;
 use field::fields::Field;
 use frame::refusals::Refusal;
 use rows::reading::Rows;
