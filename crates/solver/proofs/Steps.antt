@@ -7,7 +7,6 @@ use Rattle.field.specs.Operations.{Operations, reciprocal, inverse as inverse_of
 use Rattle.field.specs.Laws.{Lawful}
 use Rattle.field.specs.Slices.{Filled}
 use Rattle.field.specs.Sums.{Σ}
-use Rattle.field.proofs.FieldLemmas.{ring}
 use Rattle.algebra.specs.Places.{Distinct, Outside}
 use Rattle.algebra.specs.Vectors.{dot, mul_vec, vec_mul, unit_minus, extend}
 use Rattle.algebra.specs.Pivots.{Pivots, row_coefficients, column_coefficients, schur, grow, solution}
@@ -15,6 +14,7 @@ use Rattle.algebra.proofs.Deltas.{extend-last, extend-below}
 use Rattle.algebra.proofs.Sums.{Σ-zero, Σ-suc, Σ-congr, Σ-mod}
 use Rattle.solver.specs.Slices.{Begins, Holds, Placed}
 use Rattle.solver.specs.Pivots.{pivots_in, PivotsFit, RowsWidened, LastRow, SamePivots}
+use Rattle.solver.proofs.Kernels.{dot_skip}
 use Rattle.solver.proofs.Placing.{placed_place, placed_unit_minus}
 
 module _ (F : Lawful) where
@@ -75,24 +75,9 @@ module _ (F : Lawful) (s : ℕ) (few : s ≤ 64) (v : ℕ → ℕ) (B : ℕ → 
             ∙ ap (λ n. Σ F.ops n f) more;
       }
 
-  plus_times_zero : (a b : ℕ) → a % F.ops.q ≡ F.ops.plus a (F.ops.times 0 b)
-  plus_times_zero a b = (simp ring)
-
   -- 0 times a row is nothing
   pub rows_skip : (r : ℕ) (xs : List ℕ) → RowsCombined F.ops s v B r xs → v r ≡ 0 → RowsCombined F.ops s v B (r + 1) xs
-  rows_skip r xs C e =
-      let more : suc r ≡ r + 1 = omega arith in
-      record {
-        long = C.long;
-        each = λ l h.
-            let f = λ (k : ℕ). F.ops.times (v k) (B k l) in
-            C.each l h
-            ∙ sym (Σ-mod F r f)
-            ∙ plus_times_zero (Σ F.ops r f) (B r l)
-            ∙ ap (λ a. F.ops.plus (Σ F.ops r f) (F.ops.times a (B r l))) (sym e)
-            ∙ sym (Σ-suc F r f)
-            ∙ ap (λ n. Σ F.ops n f) more;
-      }
+  rows_skip r xs C e = record { long = C.long; each = λ l h. C.each l h ∙ sym (dot_skip F v (λ k. B k l) r e) }
 
 -- a row and a column more
 module _ (F : Lawful) (A : ℕ → ℕ → ℕ) (s : ℕ) (rows columns inverse : List ℕ) (fit : PivotsFit s rows columns inverse) (i j : ℕ) where

@@ -21,7 +21,7 @@ loop-k-preserved g c =
     let v = λ (k : ℕ). weights (S.column k) in
     let below = space.fit.columns_below k c.loop-k-test.true in
     let read : slice_index c.row_weights-weights.result c.from.result ≡ v k =
-        c.row_weights-weights.ensures.each c.from.result (omega (arith, c.from.ensures)) ∙ ap weights c.from.ensures in
+    c.row_weights-weights.ensures.each c.from.result (omega (arith, c.from.ensures)) ∙ ap weights c.from.ensures in
     elim c.if-weight-ne0.branch [
       | then-weight-ne0 w ↦
           rw (w.sums-is)
