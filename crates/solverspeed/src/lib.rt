@@ -2,7 +2,11 @@
 #![tactic(auto)]
 
 ghost use Rattle.std.specs.Prelude.{◌≡◌, ℕ, ◌<◌, min, length, slice_index, MatchOption, ⊤};
+ghost use Rattle.field.specs.Modulo.{modulo};
+ghost use Rattle.field.specs.Octets.{octets};
 ghost use Rattle.field.specs.Slices.{Filled};
+ghost use Rattle.rows.specs.Tables.{system_of};
+ghost use Rattle.solverspeed.specs.Answers.{word, Written, Says, Settled, SettledHour};
 
 use field::fields::Field;
 use field::octets::Octets;
@@ -79,7 +83,9 @@ fn read_hour(hour: &[u16]) -> Option<Table> {
 }
 
 // A number as a word; numbers of pivots and of questions fit.
-fn word(number: usize) -> u16 {
+fn word(number: usize) -> u16
+    ensures { result ≡ word number }
+{
     u16::try_from(number).unwrap_or(u16::MAX)
 }
 
@@ -92,7 +98,9 @@ fn copy(to: &mut [u16], from: &[u16])
 }
 
 // Writes an answer, as far as there is room for it.
-fn write_answer(answer: &mut [u16], kind: Kind, count: Count, found: &[u16]) {
+fn write_answer(answer: &mut [u16], kind: Kind, count: Count, found: &[u16])
+    ensures { Written kind count found.now answer.old answer.new }
+{
     let (head, tail) = answer.split_at_mut(HEAD_WORDS.min(answer.len()));
     copy(
         head,
@@ -105,12 +113,18 @@ fn write_answer(answer: &mut [u16], kind: Kind, count: Count, found: &[u16]) {
     copy(tail, found);
 }
 
-// Writes how the settle of a table ends.
-fn settle_table<F: Field>(table: &Table, answer: &mut [u16]) {
-    let mut findings = Findings::new();
-    let mut work = [0; WORK_WORDS];
-    match settle_by_scan::<F, Table>(table, &mut work, &mut findings) {
-        Ok(Outcome::Solved(count)) => {
+// No pivots and no questions.
+const NOTHING: Count = Count {
+    pivots: 0,
+    questions: 0,
+};
+
+// Writes how a run on a table ended.
+fn write_outcome(answer: &mut [u16], table: &Table, outcome: Outcome, findings: &Findings)
+    ensures { Says (system_of table.now) outcome findings.now answer.old answer.new }
+{
+    match outcome {
+        Outcome::Solved(count) => {
             let kind = if count.pivots == table.width() {
                 Kind::Whole
             } else {
@@ -118,36 +132,47 @@ fn settle_table<F: Field>(table: &Table, answer: &mut [u16]) {
             };
             write_answer(answer, kind, count, &findings.minutes[..table.width()]);
         }
-        Ok(Outcome::Contradiction(count)) => write_answer(
-            answer,
-            Kind::Contradiction,
-            count,
-            &findings.blame[..table.row_count()],
-        ),
-        Ok(Outcome::Failed(_)) | Err(_) => write_answer(answer, Kind::Failed, NOTHING, &[]),
+        Outcome::Contradiction(count) => {
+            let blame = &findings.blame[..table.row_count()];
+            write_answer(answer, Kind::Contradiction, count, blame);
+        }
+        Outcome::Failed(_) => write_answer(answer, Kind::Failed, NOTHING, &[]),
     }
 }
 
-// No pivots and no questions.
-const NOTHING: Count = Count {
-    pivots: 0,
-    questions: 0,
-};
+// Settles a table and writes how that ended.
+fn settle_table<F: Field>(answer: &mut [u16], table: &Table)
+    ensures { Settled F.Field.ops (system_of table.now) answer.old answer.new }
+{
+    let mut findings = Findings::new();
+    let mut work = [0; WORK_WORDS];
+    match settle_by_scan::<F, Table>(table, &mut work, &mut findings) {
+        Ok(outcome) => write_outcome(answer, table, outcome, &findings),
+        // Of a shorter work space only.
+        Err(_) => write_answer(answer, Kind::Failed, NOTHING, &[]),
+    }
+}
 
 // Writes how the settle of an hour ends.
-fn settle_hour<F: Field>(hour: &[u16], answer: &mut [u16]) {
+fn settle_hour<F: Field>(hour: &[u16], answer: &mut [u16])
+    ensures { SettledHour F.Field.ops answer.old answer.new }
+{
     match read_hour(hour) {
-        Some(table) => settle_table::<F>(&table, answer),
+        Some(table) => settle_table::<F>(answer, &table),
         None => write_answer(answer, Kind::NoHour, NOTHING, &[]),
     }
 }
 
 #[unsafe(no_mangle)]
-pub extern "C" fn prime_settle(hour: &[u16], answer: &mut [u16]) {
+pub extern "C" fn prime_settle(hour: &[u16], answer: &mut [u16])
+    ensures { SettledHour (modulo 65521) answer.old answer.new }
+{
     settle_hour::<Prime>(hour, answer);
 }
 
 #[unsafe(no_mangle)]
-pub extern "C" fn octets_settle(hour: &[u16], answer: &mut [u16]) {
+pub extern "C" fn octets_settle(hour: &[u16], answer: &mut [u16])
+    ensures { SettledHour octets answer.old answer.new }
+{
     settle_hour::<Octets>(hour, answer);
 }
