@@ -14,6 +14,7 @@ use Rattle.algebra.proofs.Deltas.{extend-last, extend-below}
 use Rattle.algebra.proofs.Sums.{Σ-zero, Σ-suc, Σ-congr, Σ-mod}
 use Rattle.solver.specs.Slices.{Begins, Holds, Placed}
 use Rattle.solver.specs.Pivots.{pivots_in, PivotsFit, RowsWidened, LastRow, SamePivots}
+use Rattle.solver.proofs.Kernels.{dot_skip}
 use Rattle.solver.proofs.Placing.{placed_place, placed_unit_minus}
 
 module _ (F : Lawful) where
@@ -73,6 +74,10 @@ module _ (F : Lawful) (s : ℕ) (few : s ≤ 64) (v : ℕ → ℕ) (B : ℕ → 
             ∙ sym (Σ-suc F r f)
             ∙ ap (λ n. Σ F.ops n f) more;
       }
+
+  -- 0 times a row is nothing
+  pub rows_skip : (r : ℕ) (xs : List ℕ) → RowsCombined F.ops s v B r xs → v r ≡ 0 → RowsCombined F.ops s v B (r + 1) xs
+  rows_skip r xs C e = record { long = C.long; each = λ l h. C.each l h ∙ sym (dot_skip F v (λ k. B k l) r e) }
 
 -- a row and a column more
 module _ (F : Lawful) (A : ℕ → ℕ → ℕ) (s : ℕ) (rows columns inverse : List ℕ) (fit : PivotsFit s rows columns inverse) (i j : ℕ) where

@@ -112,7 +112,10 @@ impl<'a> PivotSpace<'a> {
         let mut sums = zeros();
         for k in 0..self.count {
             let weight = weights[usize::from(self.columns[k])];
-            add_multiple::<F>(&mut sums, weight, self.inverse_row(k));
+            // Few of the weights are not 0.
+            if weight != 0 {
+                add_multiple::<F>(&mut sums, weight, self.inverse_row(k));
+            }
         }
         sums
     }

@@ -4,7 +4,7 @@ ghost use Rattle.rows.specs.Values.{choice, column_value};
 ghost use Rattle.solver.specs.Slices.{Holds};
 ghost use Rattle.solver.specs.Questions.{about_rows, about_columns, asked, side, value_of, first_place};
 
-use crate::vectors::{add_row, zeros};
+use crate::vectors::{add_row, weight_at, zeros};
 use field::fields::Field;
 use rows::reading::Rows;
 use rows::sizes::MOST_MINUTES;
@@ -26,16 +26,37 @@ pub enum Question<'a> {
     Column(&'a [u16]),
 }
 
+// u at a row, 0 past its end.
+fn factor_at(u: &[u16], row: usize) -> u16
+    ensures { result ≡ choice u.now row }
+{
+    u.get(row).copied().unwrap_or(0)
+}
+
 // uA at every minute. Rows at which u is 0 are not read.
 fn column_values<F: Field, R: Rows>(rows: &R, u: &[u16]) -> [u16; MOST_MINUTES]
     ensures { Holds 64 (column_value F.Field.ops (R.Rows.system rows.now) (choice u.now)) result }
 {
     let mut values = zeros();
     for row in 0..rows.row_count() {
-        let factor = u.get(row).copied().unwrap_or(0);
-        add_row::<F, R>(&mut values, factor, rows, row);
+        add_row::<F, R>(&mut values, factor_at(u, row), rows, row);
     }
     values
+}
+
+// uA at a minute. Rows at which u is 0 are not read.
+fn column_value<F: Field, R: Rows>(rows: &R, u: &[u16], minute: usize) -> u16
+    ensures { result ≡ column_value F.Field.ops (R.Rows.system rows.now) (choice u.now) minute }
+{
+    let mut total = 0;
+    for row in 0..rows.row_count() {
+        let factor = factor_at(u, row);
+        if factor != 0 {
+            let weight = weight_at::<F, R>(rows, row, minute);
+            total = F::plus(total, F::times(factor, weight));
+        }
+    }
+    total
 }
 
 // The first row that x does not satisfy. No row is read beyond it.
@@ -69,9 +90,9 @@ impl Question<'_> {
     {
         match self {
             Question::Row(x) => row_value::<F, R, &[u16]>(rows, place, x),
-            Question::Column(u) if place < rows.width() => Some(
-                column_values::<F, R>(rows, u)[place],
-            ),
+            Question::Column(u) if place < rows.width() => {
+                Some(column_value::<F, R>(rows, u, place))
+            }
             Question::Column(_) => None,
         }
     }

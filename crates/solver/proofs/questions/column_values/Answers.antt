@@ -1,4 +1,4 @@
-use Rattle.std.proofs.Common.{rules, arith}
+use Rattle.std.proofs.Common.{arith}
 use Rattle.field.specs.LawsForAll.{lawful}
 use Rattle.rows.specs.Values.{choice}
 use Rattle.solver.proofs.AddedRows.{sums_start, sums_codes, sums_next, sums_end}
@@ -12,7 +12,7 @@ add_row-requires g c = sums_codes (lawful g.F.Field.ops g.met.F.Field.laws) (g.R
 
 pub loop-row-preserved : goal.loop-row-preserved
 loop-row-preserved g c =
-    sums_next (lawful g.F.Field.ops g.met.F.Field.laws) (g.R.Rows.system c.args.rows.now) (choice c.args.u.now) c.loop-row.row c.unwrap_or-factor.result c.loop-row.values c.add_row.new.values c.loop-row.invariant (search rules) c.add_row.ensures
+    sums_next (lawful g.F.Field.ops g.met.F.Field.laws) (g.R.Rows.system c.args.rows.now) (choice c.args.u.now) c.loop-row.row c.factor_at.result c.loop-row.values c.add_row.new.values c.loop-row.invariant c.factor_at.ensures c.add_row.ensures
 
 pub returns : goal.returns
 returns g c =

@@ -1,0 +1,64 @@
+-- Answers in words. Assumes nothing.
+use Rattle.std.specs.Prelude.{◌≡◌, ℕ, ◌+◌, ◌<◌, ◌≤◌, ◌≢◌, ◌⊎◌, List, [], ◌∷◌, length, take, min, slice_index}
+use Rattle.field.specs.Operations.{Operations}
+use Rattle.rows.specs.Systems.{System}
+use Rattle.solver.specs.declared.findings.Findings.{Findings}
+use Rattle.solver.specs.declared.outcomes.Count.{Count}
+use Rattle.solver.specs.declared.outcomes.Outcome.{Outcome}
+use Rattle.solver.specs.declared.outcomes.Outcome.TheVariants.{Solved, Contradiction, Failed}
+use Rattle.solver.specs.declared.scouts.Scan.{Scan}
+use Rattle.solver.specs.Questions.{first_place}
+use Rattle.solver.specs.Laws.{Settles}
+use Rattle.solverspeed.specs.declared.Kind.{Kind}
+use Rattle.solverspeed.specs.declared.Kind.TheVariants.{Part, Whole, Contradiction as Contradicted, Failed as Failure, NoHour}
+
+-- the number of a kind
+abbrev pub number : Kind → ℕ
+number Part = 0
+number Whole = 1
+number Contradicted = 2
+number Failure = 3
+number NoHour = 4
+
+abbrev pub word : ℕ → ℕ
+word n = min n 65535
+
+-- the words before what was found
+abbrev pub head : Kind → Count → List ℕ
+head kind c = number kind ∷ word c.pivots ∷ word c.questions ∷ []
+
+-- an answer is written as far as there is room for it, and nothing behind it
+pub record Written (kind : Kind) (c : Count) (found before after : List ℕ) : Type 0 where
+  pub long : length after ≡ length before
+  pub heads : (k : ℕ) → k < 3 → k < length before → slice_index after k ≡ slice_index (head kind c) k
+  pub finds : (k : ℕ) → k < length found → k + 3 < length before → slice_index after (k + 3) ≡ slice_index found k
+  pub kept : (k : ℕ) → length found + 3 ≤ k → slice_index after k ≡ slice_index before k
+
+abbrev pub nothing : Count
+nothing = record { pivots = 0; questions = 0 }
+
+-- solved, with as many pivots as minutes or with fewer
+abbrev pub SolvedAs : System → Count → Kind → Type 0
+SolvedAs S c Part = c.pivots ≢ S.width
+SolvedAs S c Whole = c.pivots ≡ S.width
+SolvedAs S c Contradicted = ⊥
+SolvedAs S c Failure = ⊥
+SolvedAs S c NoHour = ⊥
+
+-- an answer says how a run ended: solved and its minutes, or a contradiction and its blame
+abbrev pub Says : System → Outcome → Findings → (before after : List ℕ) → Type 0
+Says S (Solved c) f before after = (kind : Kind) × SolvedAs S c kind × Written kind c (take S.width f.minutes) before after
+Says S (Contradiction c) f before after = Written Contradicted c (take (length S.rows) f.blame) before after
+Says S (Failed e) f before after = Written Failure nothing [] before after
+
+-- an answer says how a settle of these rows by the scan ended
+pub record Settled (K : Operations) (S : System) (before after : List ℕ) : Type 0 where
+  pub from : Findings
+  pub to : Findings
+  pub outcome : Outcome
+  pub settles : (scan : Scan) → Settles K S (λ state S q. first_place K S q) (λ state S q. state) scan scan from to outcome
+  pub says : Says S outcome to before after
+
+-- an answer to the words of an hour: that they are none, or how a settle of some rows ended
+abbrev pub SettledHour : Operations → (before after : List ℕ) → Type 0
+SettledHour K before after = Written NoHour nothing [] before after ⊎ ((S : System) × Settled K S before after)
