@@ -21,9 +21,7 @@ use rows::tables::Table;
 use solver::findings::Findings;
 use solver::outcomes::{Count, Outcome};
 use solver::runs::settle_by_scan;
-
-// How many words of work space a settle gets.
-const WORK_WORDS: usize = 8192;
+use solver::spaces::WORK_WORDS;
 
 // How many words of an answer go before what was found: the kind, the number of pivots, and that of questions.
 const HEAD_WORDS: usize = 3;
