@@ -1,6 +1,7 @@
 //! What a run finds.
 ghost use Rattle.std.specs.Prelude.{◌≡◌, ◌≤◌, length, slice_index};
 ghost use Rattle.field.specs.Slices.{Filled};
+ghost use Rattle.solver.specs.Slices.{Holds};
 
 use crate::vectors::zeros;
 use rows::sizes::{MOST_MINUTES, MOST_ROWS};
@@ -15,7 +16,10 @@ pub struct Findings {
 
 impl Findings {
     // All 0.
-    pub fn new() -> Findings {
+    pub fn new() -> Findings
+        ensures minutes { Holds 64 (λ _. 0) result.minutes }
+        ensures blame { Holds 96 (λ _. 0) result.blame }
+    {
         Findings {
             minutes: zeros(),
             blame: zeros(),
@@ -23,7 +27,7 @@ impl Findings {
     }
 
     // Writes the minutes of a solved run.
-    pub fn write_minutes(&mut self, x: &[u16])
+    pub(crate) fn write_minutes(&mut self, x: &[u16])
         requires { length x.now ≤ 64 }
         ensures minutes { Filled (length x.now) (slice_index x.now) self.old.minutes self.new.minutes }
         ensures blame { self.new.blame ≡ self.old.blame }
@@ -32,7 +36,7 @@ impl Findings {
     }
 
     // Writes the multipliers of a contradiction.
-    pub fn write_blame(&mut self, u: &[u16])
+    pub(crate) fn write_blame(&mut self, u: &[u16])
         requires { length u.now ≤ 96 }
         ensures minutes { self.new.minutes ≡ self.old.minutes }
         ensures blame { Filled (length u.now) (slice_index u.now) self.old.blame self.new.blame }

@@ -33,7 +33,7 @@ impl<'a> PivotSpace<'a> {
     ghost use Rattle.solver.specs.Spaces.{pivots_of, SamePlaces};
 
     // No pivots, in a work space.
-    pub fn new(work: &'a mut [u16]) -> PivotSpace<'a>
+    pub(crate) fn new(work: &'a mut [u16]) -> PivotSpace<'a>
         requires { 8192 ≤ length work.old }
         ensures { result.count ≡ 0 }
     {
@@ -48,7 +48,7 @@ impl<'a> PivotSpace<'a> {
         }
     }
 
-    pub fn count(&self) -> usize
+    pub(crate) fn count(&self) -> usize
         ensures { result ≡ self.now.count }
     {
         self.count
@@ -97,7 +97,7 @@ impl<'a> PivotSpace<'a> {
     }
 
     // x: what solves the pivot rows, 0 at all minutes but the pivot columns.
-    pub fn solution<F: Field, R: Rows>(&self, rows: &R) -> [u16; MOST_MINUTES]
+    pub(crate) fn solution<F: Field, R: Rows>(&self, rows: &R) -> [u16; MOST_MINUTES]
         ensures { Distinct self.now.count (pivots_of self.now).column → Holds 64 (solution F.Field.ops (sum_at (R.Rows.system rows.now)) (pivots_of self.now)) result }
     {
         let product = self.times::<F>(&self.sums(rows));
@@ -105,7 +105,11 @@ impl<'a> PivotSpace<'a> {
     }
 
     // vB: the combination of the pivot rows that agrees with a row at the pivot columns.
-    pub fn row_coefficients<F: Field, R: Rows>(&self, rows: &R, row: usize) -> [u16; MOST_MINUTES]
+    pub(crate) fn row_coefficients<F: Field, R: Rows>(
+        &self,
+        rows: &R,
+        row: usize,
+    ) -> [u16; MOST_MINUTES]
         ensures { Begins self.now.count (row_coefficients F.Field.ops (entry F.Field.ops (R.Rows.system rows.now)) (pivots_of self.now) row) result }
     {
         let weights = row_weights::<F, R>(rows, row);
@@ -121,7 +125,7 @@ impl<'a> PivotSpace<'a> {
     }
 
     // u: 1 at a row that is no pivot row, the negatives of its coefficients at the pivot rows, 0 elsewhere.
-    pub fn multipliers<F: Field>(
+    pub(crate) fn multipliers<F: Field>(
         &self,
         row: usize,
         coefficients: &[u16; MOST_MINUTES],
@@ -184,7 +188,7 @@ impl<'a> PivotSpace<'a> {
     }
 
     // A row and a minute as one pivot more, where the complement is not 0.
-    pub fn grow<F: Field, R: Rows>(
+    pub(crate) fn grow<F: Field, R: Rows>(
         &mut self,
         rows: &R,
         row: usize,
@@ -206,7 +210,7 @@ impl<'a> PivotSpace<'a> {
     }
 
     // Writes the pivot rows, in the order found, to the head of a list.
-    pub fn write_rows(&self, list: &mut [u16])
+    pub(crate) fn write_rows(&self, list: &mut [u16])
         requires { self.now.count ≤ length list.old }
         ensures { Filled self.now.count (pivots_of self.now).row list.old list.new }
     {

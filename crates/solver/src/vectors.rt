@@ -12,14 +12,14 @@ use rows::terms::terms;
 use rows::values::entry;
 
 // As many zeros.
-pub fn zeros<const N: usize>() -> [u16; N]
+pub(crate) fn zeros<const N: usize>() -> [u16; N]
     ensures { Holds N (λ _. 0) result }
 {
     [0; N]
 }
 
 // x · y, over the places that both have.
-pub fn dot<F: Field>(x: &[u16], y: &[u16]) -> u16
+pub(crate) fn dot<F: Field>(x: &[u16], y: &[u16]) -> u16
     ensures { result ≡ dot F.Field.ops (min (length x.now) (length y.now)) (slice_index x.now) (slice_index y.now) }
 {
     let count = x.len().min(y.len());
@@ -31,7 +31,7 @@ pub fn dot<F: Field>(x: &[u16], y: &[u16]) -> u16
 }
 
 // Adds a multiple of y to x, at the places that both have.
-pub fn add_multiple<F: Field>(x: &mut [u16], factor: u16, y: &[u16])
+pub(crate) fn add_multiple<F: Field>(x: &mut [u16], factor: u16, y: &[u16])
     ensures { Filled (min (length x.old) (length y.now)) (λ k. F.Field.ops.plus (slice_index x.old k) (F.Field.ops.times factor (slice_index y.now k))) x.old x.new }
 {
     let count = x.len().min(y.len());
@@ -41,7 +41,7 @@ pub fn add_multiple<F: Field>(x: &mut [u16], factor: u16, y: &[u16])
 }
 
 // Writes the negatives of a multiple of y into x, at the places that both have.
-pub fn write_negatives<F: Field>(x: &mut [u16], factor: u16, y: &[u16])
+pub(crate) fn write_negatives<F: Field>(x: &mut [u16], factor: u16, y: &[u16])
     ensures { Filled (min (length x.old) (length y.now)) (λ k. F.Field.ops.negative (F.Field.ops.times factor (slice_index y.now k))) x.old x.new }
 {
     let count = x.len().min(y.len());
@@ -51,7 +51,7 @@ pub fn write_negatives<F: Field>(x: &mut [u16], factor: u16, y: &[u16])
 }
 
 // Adds a multiple of a row's weights to values, one for each minute. The row is read once, and not at all for 0 times it.
-pub fn add_row<F: Field, R: Rows>(
+pub(crate) fn add_row<F: Field, R: Rows>(
     values: &mut [u16; MOST_MINUTES],
     factor: u16,
     rows: &R,
@@ -72,7 +72,7 @@ pub fn add_row<F: Field, R: Rows>(
 }
 
 // A row's weights, at each minute.
-pub fn row_weights<F: Field, R: Rows>(rows: &R, row: usize) -> [u16; MOST_MINUTES]
+pub(crate) fn row_weights<F: Field, R: Rows>(rows: &R, row: usize) -> [u16; MOST_MINUTES]
     ensures { Holds 64 (entry F.Field.ops (R.Rows.system rows.now) row) result }
 {
     let mut weights = zeros();
@@ -81,14 +81,14 @@ pub fn row_weights<F: Field, R: Rows>(rows: &R, row: usize) -> [u16; MOST_MINUTE
 }
 
 // A row's weight at a minute, 0 where there is none.
-pub fn weight_at<F: Field, R: Rows>(rows: &R, row: usize, minute: usize) -> u16
+pub(crate) fn weight_at<F: Field, R: Rows>(rows: &R, row: usize, minute: usize) -> u16
     ensures { result ≡ entry F.Field.ops (R.Rows.system rows.now) row minute }
 {
     entry::<F, R>(rows, row, minute).unwrap_or(0)
 }
 
 // The negatives of a vector's numbers.
-pub fn negated<F: Field>(v: &[u16; MOST_MINUTES]) -> [u16; MOST_MINUTES]
+pub(crate) fn negated<F: Field>(v: &[u16; MOST_MINUTES]) -> [u16; MOST_MINUTES]
     ensures { Holds 64 (λ k. F.Field.ops.negative (slice_index v.now k)) result }
 {
     let mut negatives = zeros();
@@ -99,7 +99,7 @@ pub fn negated<F: Field>(v: &[u16; MOST_MINUTES]) -> [u16; MOST_MINUTES]
 }
 
 // Values at places, and 0 elsewhere.
-pub fn placed<const N: usize>(places: &[u16], values: &[u16; MOST_MINUTES]) -> [u16; N]
+pub(crate) fn placed<const N: usize>(places: &[u16], values: &[u16; MOST_MINUTES]) -> [u16; N]
     requires { (length places.now ≤ 64) × ((k : ℕ) → k < length places.now → slice_index places.now k < N) }
     ensures long { length result ≡ N }
     ensures placed { Placed (length places.now) (slice_index places.now) (slice_index values.now) result }
