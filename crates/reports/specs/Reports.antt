@@ -17,9 +17,11 @@ written (Solved c) S f = take S.width f.minutes
 written (Contradiction c) S f = take (length S.rows) f.blame
 written (Failed e) S f = []
 
--- a settle by the scan ended so, which did not fail, and this stands in the record after it
+-- a settle by the scan ended so, which did not fail, and this stands in the record after it, which has its places
 pub record ScanSettles (K : Operations) (S : System) (outcome : Outcome) (after : Findings) : Type 0 where
   pub before : Findings
+  pub minutes_long : length before.minutes ≡ 64
+  pub blame_long : length before.blame ≡ 96
   pub settles : (scan : Scan) → Settles K S (λ state S q. first_place K S q) (λ state S q. state) scan scan before after outcome
   pub never_failed : IsFailed outcome → ⊥
 

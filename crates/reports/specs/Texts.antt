@@ -31,7 +31,7 @@ lie_text (Outside i) = codes "outside"
 abbrev pub outcome_text : Outcome → ℕ → List ℕ → List ℕ
 outcome_text (Solved c) width xs = join 44 (codes "solved" ∷ extent_text c.pivots width ∷ decimal c.pivots ∷ decimal c.questions ∷ map decimal xs)
 outcome_text (Contradiction c) width us = join 44 (codes "contradiction" ∷ decimal c.pivots ∷ decimal c.questions ∷ map decimal us)
-outcome_text (Failed f) width none = join 44 (codes "failed" ∷ decimal f.question ∷ side_text f.side ∷ lie_text f.lie ∷ decimal (lie_place f.lie) ∷ [])
+outcome_text (Failed f) width xs = join 44 (codes "failed" ∷ decimal f.question ∷ side_text f.side ∷ lie_text f.lie ∷ decimal (lie_place f.lie) ∷ [])
 
 -- the profile's line
 abbrev pub profile_text : List ℕ → List ℕ

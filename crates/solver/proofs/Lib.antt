@@ -3,7 +3,7 @@ pub mod Searches
 pub mod Values
 pub mod Judging
 pub mod Filling
-pub mod Kernels
+pub mod Products
 pub mod Placing
 pub mod Readings
 pub mod Steps

@@ -1,5 +1,5 @@
 -- What every run keeps. Assumes nothing.
-use Rattle.std.proofs.Common.{◌≡◌, ◌≢◌, ℕ, zero, suc, ◌+◌, ◌<◌, ◌≤◌, List, [], ◌∷◌, length, Some, None, Ok, Err, Option, Result, sym, refl, ap, subst, ◌∙◌, inl, inr, arith, mod-eq_of_lt}
+use Rattle.std.proofs.Common.{◌≡◌, ◌≢◌, ℕ, zero, suc, ◌+◌, ◌<◌, ◌≤◌, List, [], ◌∷◌, length, ◌⊎◌, ◌%◌, Some, None, Ok, Err, Option, Result, sym, refl, ap, subst, ◌∙◌, inl, inr, arith, mod-eq_of_lt}
 use Rattle.std.specs.Result.{MatchResult}
 use Rattle.field.specs.Operations.{Operations}
 use Rattle.field.specs.Laws.{Lawful}
@@ -7,14 +7,15 @@ use Rattle.frame.specs.declared.refusals.Refusal.{Refusal}
 use Rattle.rows.specs.Systems.{System, row_at, WellFormed}
 use Rattle.rows.specs.Values.{choice, entry, SatisfiesAll}
 use Rattle.rows.proofs.RowValues.{value_tells}
-use Rattle.algebra.specs.Vectors.{δ, mul_vec, vec_mul, dot}
-use Rattle.algebra.specs.Pivots.{Pivots, solution, multipliers}
+use Rattle.algebra.specs.Places.{Outside}
+use Rattle.algebra.specs.Vectors.{δ, mul_vec, vec_mul, dot, place}
+use Rattle.algebra.specs.Pivots.{Pivots, row_coefficients, solution, multipliers}
 use Rattle.algebra.specs.Profiles.{pivot_rows}
 use Rattle.algebra.proofs.Growth.{no_pivots-PivotsOf}
 use Rattle.algebra.proofs.Profiles.{pivot_rows-length, pivot_rows-IndependentRows, count-le_rank}
 use Rattle.algebra.proofs.Pivots.{count-le_columns, SolvesAll-unique, dot-multipliers}
 use Rattle.algebra.proofs.Systems.{no_solution}
-use Rattle.algebra.proofs.Sums.{Σ-congr, Σ-code}
+use Rattle.algebra.proofs.Sums.{Σ-congr, Σ-code, place-elsewhere}
 use Rattle.solver.specs.declared.lies.Lie.{Lie}
 use Rattle.solver.specs.declared.findings.Findings.{Findings}
 use Rattle.solver.specs.declared.outcomes.Outcome.{Outcome}
@@ -23,7 +24,8 @@ use Rattle.solver.specs.Pivots.{sum_at, PivotsOfRows}
 use Rattle.solver.specs.Questions.{Asked, about_rows, about_columns, side, value_at, tested, FalseAnswer, TrueAnswer, Judges}
 use Rattle.solver.specs.Runs.{Exchange, State, start, Next, question, end, Ran, x_of, u_of, question_of, next_question, named, ending, judged, step, pivot_columns, run, whole_run, most_questions, Writes}
 use Rattle.solver.specs.Turns.{state}
-use Rattle.solver.specs.Laws.{IsFailed, Gave, SomeFalse, FailureTells, RunLaws, SettlesIn}
+use Rattle.solver.specs.Laws.{IsFailed, Gave, SomeFalse, Alternate, FailureTells, RunLaws, SettlesIn}
+use Rattle.solver.specs.Outcomes.{side_case}
 use Rattle.solver.proofs.Judging.{judges, true_not_false}
 use Rattle.solver.proofs.Filling.{values_hold}
 use Rattle.solver.proofs.Matrix.{SatisfiesAll-congr, SolvesAll-of_SatisfiesAll}
@@ -50,6 +52,7 @@ module _ {X : Type 0} (F : Lawful) (S : System) (formed : WellFormed S) (answer 
     pub pivots : PivotsOfRows F.ops S st.pivots
     pub row : RowLeft st.pivots st.row
     pub count : Counted st.pivots.count st.row (length st.asked)
+    pub turns : Alternate st.asked
     pub all_true : SomeFalse F.ops S st.asked → ⊥
     pub gave : Gave S answer after from st.asked scout
 
@@ -59,6 +62,7 @@ module _ {X : Type 0} (F : Lawful) (S : System) (formed : WellFormed S) (answer 
         pivots = no_pivots-PivotsOf F (length S.rows) S.width (entry F.ops S);
         row = tt;
         count = refl;
+        turns = tt;
         all_true = λ none. none;
         gave = refl;
       }
@@ -71,6 +75,16 @@ module _ {X : Type 0} (F : Lawful) (S : System) (formed : WellFormed S) (answer 
   still_true st scout K t (inl f) = true_not_false F.ops S (next_question F.ops S st) (answer scout S (next_question F.ops S st)) t f
   still_true st scout K t (inr f) = K.all_true f
 
+  -- a row's column question is the next in turn after a row question, and a row question after that
+  turn_next : (P : Pivots) (row : Option ℕ) (k : ℕ) → Counted P.count row k → (side_case (side (question_of F.ops S P row))).number ≡ suc (k % 2)
+  turn_next P None k counted = omega (arith, counted)
+  turn_next P (Some i) k counted = omega (arith, counted)
+
+  -- the last question has been put
+  counts_last : (s : ℕ) (row : Option ℕ) (k : ℕ) → Counted s row k → (suc k ≡ s + s + 1) ⊎ (suc k ≡ s + s + 2)
+  counts_last s None k counted = inl (omega (arith, counted))
+  counts_last s (Some i) k counted = inr (omega (arith, counted))
+
   -- a true answer that names a place leads on
   named_keeps : (P : Pivots) (row : Option ℕ) (asked : List Exchange) (scout : X) (i : ℕ) → Keeps (state P row asked) scout →
       TrueAnswer F.ops S (question_of F.ops S P row) (answer scout S (question_of F.ops S P row)) → answer scout S (question_of F.ops S P row) ≡ Some i →
@@ -81,6 +95,7 @@ module _ {X : Type 0} (F : Lawful) (S : System) (formed : WellFormed S) (answer 
         pivots = K.pivots;
         row = named;
         count = omega (arith, K.count);
+        turns = (turn_next P None (length asked) K.count, K.turns);
         all_true = still_true (state P None asked) scout K t;
         gave = (scout, K.gave, refl, refl);
       }
@@ -90,6 +105,7 @@ module _ {X : Type 0} (F : Lawful) (S : System) (formed : WellFormed S) (answer 
         pivots = grown_pivots F S P K.pivots r i K.row.0 named.0 (λ z. named.1 (column_left F S formed P K.pivots r i K.row.0 ∙ z));
         row = tt;
         count = omega (arith, K.count);
+        turns = (turn_next P (Some r) (length asked) K.count, K.turns);
         all_true = still_true (state P (Some r) asked) scout K t;
         gave = (scout, K.gave, refl, refl);
       }
@@ -174,6 +190,12 @@ module _ {X : Type 0} (F : Lawful) (S : System) (formed : WellFormed S) (answer 
     long : length (pivot_rows P) ≡ P.count
     long = pivot_rows-length F (length S.rows) S.width (entry F.ops S) P
 
+    turns_now : Alternate now
+    turns_now = (turn_next P row (length asked) K.count, K.turns)
+
+    counts_now : (length now ≡ length (pivot_rows P) + length (pivot_rows P) + 1) ⊎ (length now ≡ length (pivot_rows P) + length (pivot_rows P) + 2)
+    counts_now = subst (λ s. (length now ≡ s + s + 1) ⊎ (length now ≡ s + s + 2)) (sym long) (counts_last P.count row (length asked) K.count)
+
     abbrev Laws : Outcome → Type 0
     Laws o = RunLaws F.ops S answer after from (ran_to (state P row asked) scout o) (choice f'.minutes) (choice f'.blame)
 
@@ -182,8 +204,10 @@ module _ {X : Type 0} (F : Lawful) (S : System) (formed : WellFormed S) (answer 
         record {
           solved = λ e. absurd (omega arith);
           codes = λ e. absurd (omega arith);
+          elsewhere = λ e. absurd (omega arith);
           only = λ e. absurd (omega arith);
           blamed = λ e. absurd (omega arith);
+          blame_codes = λ e. absurd (omega arith);
           refuted = λ e. absurd (omega arith);
           gave = (scout, K.gave, refl, refl);
           failed = (λ _. inl j.1, λ _. refl);
@@ -194,6 +218,8 @@ module _ {X : Type 0} (F : Lawful) (S : System) (formed : WellFormed S) (answer 
           honest = λ true_always _. true_always scout q j.1;
           independent = pivot_rows-IndependentRows F (length S.rows) S.width (entry F.ops S) P K.pivots;
           at_most_rank = let few = count-le_rank F (length S.rows) S.width (entry F.ops S) P K.pivots in omega (arith, long);
+          turns = turns_now;
+          counts = counts_now;
           solved_counts = λ e. absurd (omega arith);
           contradiction_counts = λ e. absurd (omega arith);
         }
@@ -217,6 +243,13 @@ module _ {X : Type 0} (F : Lawful) (S : System) (formed : WellFormed S) (answer 
         let e = x_is c h ∙ (values_hold S.width (solution F.ops (sum_at S) P)).each c h in
         omega arith
 
+    x_elsewhere : (c : ℕ) → c < S.width → Outside (length (pivot_columns P)) (choice (pivot_columns P)) c → choice f'.minutes c ≡ 0
+    x_elsewhere c h none =
+        let Q = values_hold P.count P.column in
+        x_is c h
+        ∙ (values_hold S.width (solution F.ops (sum_at S) P)).each c h
+        ∙ place-elsewhere F P.count P.column (mul_vec F.ops P.count P.inverse (λ l. sum_at S (P.row l))) c (λ k hk e. none k (omega (arith, Q.long)) (Q.each k hk ∙ e))
+
     solved_laws : Laws P None asked scout K f f' (ending P None (now P None asked scout K f f'))
     solved_laws =
         let l = long P None asked scout K f f' in
@@ -224,10 +257,12 @@ module _ {X : Type 0} (F : Lawful) (S : System) (formed : WellFormed S) (answer 
         record {
           solved = λ _. satisfies;
           codes = λ _. x_codes;
+          elsewhere = λ _. x_elsewhere;
           only = λ _ whole y ys c h.
               SolvesAll-unique F (length S.rows) S.width (entry F.ops S) P K.pivots (sym l ∙ whole) (sum_at S) y (choice f'.minutes) (SolvesAll-of_SatisfiesAll F S formed y ys) (SolvesAll-of_SatisfiesAll F S formed (choice f'.minutes) satisfies) c h
               ∙ mod-eq_of_lt (x_codes c h);
           blamed = λ e. absurd (omega arith);
+          blame_codes = λ e. absurd (omega arith);
           refuted = λ e. absurd (omega arith);
           gave = (scout, K.gave, refl, refl);
           failed = (λ e. absurd (omega arith), λ false. absurd (still_true (state P None asked) scout K (subst (TrueAnswer F.ops S (about_rows x)) (sym none) t) false));
@@ -236,6 +271,8 @@ module _ {X : Type 0} (F : Lawful) (S : System) (formed : WellFormed S) (answer 
           honest = λ true_always e. absurd (omega arith);
           independent = pivot_rows-IndependentRows F (length S.rows) S.width (entry F.ops S) P K.pivots;
           at_most_rank = let few = count-le_rank F (length S.rows) S.width (entry F.ops S) P K.pivots in omega arith;
+          turns = turns_now P None asked scout K f f';
+          counts = counts_now P None asked scout K f f';
           solved_counts = λ _. (ap (λ s. s ∷ suc (length asked) ∷ []) (sym l), omega arith);
           contradiction_counts = λ e. absurd (omega arith);
         }
@@ -251,6 +288,12 @@ module _ {X : Type 0} (F : Lawful) (S : System) (formed : WellFormed S) (answer 
 
     u_is : (r : ℕ) → r < length S.rows → blame r ≡ choice u r
     u_is r h = W.1.done r (let l = (values_hold (length S.rows) (multipliers F.ops (entry F.ops S) P i)).long in omega arith)
+
+    u_codes : (r : ℕ) → r < length S.rows → blame r < F.ops.q
+    u_codes r h =
+        let code = F.plus_code (δ i r) (F.ops.negative (place F.ops P.count P.row (row_coefficients F.ops (entry F.ops S) P i) r)) in
+        let e = u_is r h ∙ (values_hold (length S.rows) (multipliers F.ops (entry F.ops S) P i)).each r h in
+        omega arith
 
     null : (c : ℕ) → c < S.width → vec_mul F.ops (length S.rows) blame (entry F.ops S) c ≡ 0
     null c h = Σ-congr F (length S.rows) (λ r. F.ops.times (blame r) (entry F.ops S r c)) (λ r. F.ops.times (choice u r) (entry F.ops S r c)) (λ r hr. ap (λ v. F.ops.times v (entry F.ops S r c)) (u_is r hr)) ∙ t c h
@@ -271,8 +314,10 @@ module _ {X : Type 0} (F : Lawful) (S : System) (formed : WellFormed S) (answer 
         record {
           solved = λ e. absurd (omega arith);
           codes = λ e. absurd (omega arith);
+          elsewhere = λ e. absurd (omega arith);
           only = λ e. absurd (omega arith);
           blamed = λ _. (null, left);
+          blame_codes = λ _. u_codes;
           refuted = λ _ y ys. no_solution F (length S.rows) S.width (entry F.ops S) (sum_at S) blame null left y (SolvesAll-of_SatisfiesAll F S formed y ys);
           gave = (scout, K.gave, refl, refl);
           failed = (λ e. absurd (omega arith), λ false. absurd (still_true (state P (Some i) asked) scout K (subst (TrueAnswer F.ops S (about_columns u)) (sym none) t) false));
@@ -281,6 +326,8 @@ module _ {X : Type 0} (F : Lawful) (S : System) (formed : WellFormed S) (answer 
           honest = λ true_always e. absurd (omega arith);
           independent = pivot_rows-IndependentRows F (length S.rows) S.width (entry F.ops S) P K.pivots;
           at_most_rank = let few = count-le_rank F (length S.rows) S.width (entry F.ops S) P K.pivots in omega arith;
+          turns = turns_now P (Some i) asked scout K f f';
+          counts = counts_now P (Some i) asked scout K f f';
           solved_counts = λ e. absurd (omega arith);
           contradiction_counts = λ _. (ap (λ s. s ∷ suc (length asked) ∷ []) (sym l), omega arith);
         }

@@ -14,7 +14,7 @@ use Rattle.algebra.proofs.Deltas.{extend-last, extend-below}
 use Rattle.algebra.proofs.Sums.{Σ-zero, Σ-suc, Σ-congr, Σ-mod}
 use Rattle.solver.specs.Slices.{Begins, Holds, Placed}
 use Rattle.solver.specs.Pivots.{pivots_in, PivotsFit, RowsWidened, LastRow, SamePivots}
-use Rattle.solver.proofs.Kernels.{dot_skip}
+use Rattle.solver.proofs.Products.{dot_skip}
 use Rattle.solver.proofs.Placing.{placed_place, placed_unit_minus}
 
 module _ (F : Lawful) where

@@ -1,11 +1,12 @@
 -- What every run of a settle keeps, in words of rows, minutes and answers. Assumes nothing.
-use Rattle.std.specs.Prelude.{◌≡◌, ◌≢◌, ℕ, suc, ◌+◌, ◌%◌, ◌<◌, ◌≤◌, ◌↔◌, ◌⊎◌, List, [], ◌∷◌, length, drop, Some, Option, Result, MatchResult}
+use Rattle.std.specs.Prelude.{◌≡◌, ◌≢◌, ℕ, suc, ◌+◌, ◌%◌, ◌<◌, ◌≤◌, ◌↔◌, ◌⊎◌, List, [], ◌∷◌, length, drop, ⊤, Some, Option, Result, MatchResult}
 use Rattle.field.specs.Operations.{Operations}
 use Rattle.field.specs.Sums.{Σ}
 use Rattle.frame.specs.declared.refusals.Refusal.{Refusal}
 use Rattle.frame.specs.declared.refusals.Refusal.TheVariants.{SpaceTooShort}
 use Rattle.rows.specs.Systems.{System}
 use Rattle.rows.specs.Values.{choice, entry, column_value, SatisfiesAll}
+use Rattle.algebra.specs.Places.{Outside}
 use Rattle.algebra.specs.Profiles.{IndependentRows, rank}
 use Rattle.solver.specs.declared.findings.Findings.{Findings}
 use Rattle.solver.specs.declared.outcomes.Failure.{Failure}
@@ -13,7 +14,7 @@ use Rattle.solver.specs.declared.outcomes.Outcome.{Outcome}
 use Rattle.solver.specs.declared.outcomes.Outcome.TheVariants.{Failed}
 use Rattle.solver.specs.Pivots.{sum_at}
 use Rattle.solver.specs.Questions.{Asked, side, Tells, FalseAnswer}
-use Rattle.solver.specs.Outcomes.{outcome_case}
+use Rattle.solver.specs.Outcomes.{side_case, outcome_case}
 use Rattle.solver.specs.Runs.{Exchange, Ran, Writes, whole_run}
 
 -- how it ended, by the numbers of the cases
@@ -36,6 +37,11 @@ abbrev pub SomeFalse : Operations → System → List Exchange → Type 0
 SomeFalse K S [] = ⊥
 SomeFalse K S (e ∷ es) = FalseAnswer K S e.question e.answer ⊎ SomeFalse K S es
 
+-- questions alternate: from 1, the odd ones are of rows and the even ones of columns
+abbrev pub Alternate : List Exchange → Type 0
+Alternate [] = ⊤
+Alternate (e ∷ es) = ((side_case (side e.question)).number ≡ suc (length es % 2)) × Alternate es
+
 -- a failure tells of the last question: its number from 1, its side, and what is false in its answer
 abbrev pub FailureTells : Operations → System → List Exchange → Failure → Type 0
 FailureTells K S [] f = ⊥
@@ -47,12 +53,14 @@ Impossible K S u = ((c : ℕ) → c < S.width → column_value K S u c ≡ 0) ×
 
 -- the laws of a run that has ended, where x and u are what stands in the record after it
 pub record RunLaws {X : Type 0} (K : Operations) (S : System) (answer : X → System → Asked → Option ℕ) (after : X → System → Asked → X) (scout : X) (r : Ran X) (x u : ℕ → ℕ) : Type 0 where
-  -- solved: the minutes are codes and satisfy every row; with as many pivots as minutes no other minutes do
+  -- solved: the minutes are codes, 0 outside the pivot columns, and satisfy every row; with as many pivots as minutes no others do
   pub solved : IsSolved r.outcome → SatisfiesAll K S x
   pub codes : IsSolved r.outcome → (c : ℕ) → c < S.width → x c < K.q
+  pub elsewhere : IsSolved r.outcome → (c : ℕ) → c < S.width → Outside (length r.columns) (choice r.columns) c → x c ≡ 0
   pub only : IsSolved r.outcome → length r.rows ≡ S.width → (y : ℕ → ℕ) → SatisfiesAll K S y → (c : ℕ) → c < S.width → y c % K.q ≡ x c
-  -- contradiction: the rows that u blames are impossible together, so no minutes satisfy all rows
+  -- contradiction: u's numbers are codes, and the rows that it blames are impossible together, so no minutes satisfy all rows
   pub blamed : IsContradiction r.outcome → Impossible K S u
+  pub blame_codes : IsContradiction r.outcome → (i : ℕ) → i < length S.rows → u i < K.q
   pub refuted : IsContradiction r.outcome → (y : ℕ → ℕ) → SatisfiesAll K S y → ⊥
   -- failed: exactly where one of the answers, which are the scout's, was false; so never with a scout that does not lie
   pub gave : Gave S answer after scout r.asked r.scout
@@ -63,7 +71,10 @@ pub record RunLaws {X : Type 0} (K : Operations) (S : System) (answer : X → Sy
   -- the pivot rows are independent, and so no more than the rank
   pub independent : IndependentRows K (length S.rows) S.width (entry K S) r.rows
   pub at_most_rank : length r.rows ≤ rank K (length S.rows) S.width (entry K S)
-  -- the numbers told are those of the pivots and of the questions, of which there are two for each pivot, and one or two more
+  -- the questions are of rows and of columns in turn, two for each pivot, and one or two more; the numbers told are those of the
+  -- pivots and of the questions
+  pub turns : Alternate r.asked
+  pub counts : (length r.asked ≡ length r.rows + length r.rows + 1) ⊎ (length r.asked ≡ length r.rows + length r.rows + 2)
   pub solved_counts : IsSolved r.outcome → ((outcome_case r.outcome).values ≡ length r.rows ∷ length r.asked ∷ []) × (length r.asked ≡ length r.rows + length r.rows + 1)
   pub contradiction_counts : IsContradiction r.outcome → ((outcome_case r.outcome).values ≡ length r.rows ∷ length r.asked ∷ []) × (length r.asked ≡ length r.rows + length r.rows + 2)
 

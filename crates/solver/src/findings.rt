@@ -6,8 +6,8 @@ ghost use Rattle.solver.specs.Slices.{Holds};
 use crate::vectors::zeros;
 use rows::sizes::{MOST_MINUTES, MOST_ROWS};
 
-// What runs have found: the minutes of the last one that was solved, and of the last contradiction a number for each row,
-// which times the rows add up to an impossible one. A row is blamed where that is not 0.
+// The record: the minutes of the last solved run, and of the last contradiction u, a number for each row. A row is blamed
+// where its number is not 0.
 #[derive(Clone, Copy)]
 pub struct Findings {
     pub minutes: [u16; MOST_MINUTES],

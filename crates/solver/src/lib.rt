@@ -1,4 +1,4 @@
-//! The oracle solver over any rows, for any field and any scout.
+//! The settle and the row rank profile over any rows, for any field; a settle with any scout.
 #![tactic(auto)]
 
 pub mod findings;

@@ -2,7 +2,7 @@
 ghost use Rattle.std.specs.Prelude.{◌≡◌, ℕ, ◌<◌, slice_index};
 ghost use Rattle.rows.specs.Values.{choice, column_value};
 ghost use Rattle.solver.specs.Slices.{Holds};
-ghost use Rattle.solver.specs.Questions.{about_rows, about_columns, asked, side, value_of, first_place};
+ghost use Rattle.solver.specs.Questions.{about_rows, about_columns, asked, side, value_of, first_place, TrueAnswer};
 
 use crate::vectors::{add_row, weight_at, zeros};
 use field::fields::Field;
@@ -97,9 +97,10 @@ impl Question<'_> {
         }
     }
 
-    // The first place whose value is not 0.
+    // The first place whose value is not 0, which is a true answer.
     pub fn first_place<F: Field, R: Rows>(&self, rows: &R) -> Option<usize>
-        ensures { result ≡ first_place F.Field.ops (R.Rows.system rows.now) (asked self.now) }
+        ensures first { result ≡ first_place F.Field.ops (R.Rows.system rows.now) (asked self.now) }
+        ensures truth { TrueAnswer F.Field.ops (R.Rows.system rows.now) (asked self.now) result }
     {
         match self {
             Question::Row(x) => first_row::<F, R>(rows, x),

@@ -1,4 +1,4 @@
 //! Work spaces.
 
-// How many words a work space has that a caller lends: no fewer will do.
+// The fewest words of a work space, which a caller lends.
 pub const WORK_WORDS: usize = 8192;

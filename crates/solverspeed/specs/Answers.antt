@@ -54,6 +54,8 @@ Says S (Failed e) f before after = Written Failure nothing [] before after
 -- an answer says how a settle of these rows by the scan ended
 pub record Settled (K : Operations) (S : System) (before after : List ℕ) : Type 0 where
   pub from : Findings
+  pub minutes_long : length from.minutes ≡ 64
+  pub blame_long : length from.blame ≡ 96
   pub to : Findings
   pub outcome : Outcome
   pub settles : (scan : Scan) → Settles K S (λ state S q. first_place K S q) (λ state S q. state) scan scan from to outcome

@@ -29,6 +29,7 @@ mod tests {
     use lines::openings::{FieldName, Opening};
     use lines::reading::{line_kind, read_frame};
     use lines::writing::write_frame;
+    use profilelog::ends::final_report;
     use profilelog::sessions::Session;
     use rows::reading::Rows;
     use std::alloc::{AllocError, Global};
@@ -186,6 +187,8 @@ mod tests {
         assert_eq!(rt; hour.field(), FieldName::Prime);
         assert_eq!(rt; hour.width(), 2);
         assert_eq!(rt; hour.rows().row_count(), 2);
+        let report = final_report(rt.alloc(), &session)?;
+        assert!(rt; report.as_bytes() == b"profile,2,0,1\nsolved,whole,2,5,5,7\n".as_slice());
         Ok(())
     }
 

@@ -8,6 +8,7 @@ use field::primes::Prime;
 use frame::refusals::Refusal;
 use frame::terms::Term;
 use notes::layers::Noted;
+use reports::outcomes::OutcomeText;
 use rows::reading::Rows;
 use rows::tables::Table;
 use solver::findings::Findings;
@@ -61,7 +62,22 @@ fn contradiction(pivots: usize, questions: usize) -> Result<Outcome, Refusal> {
     Ok(Outcome::Contradiction(Count { pivots, questions }))
 }
 
-// The scan ends so, with these minutes and this blame at the heads of the record and nothing behind them.
+// A record that an earlier run has filled.
+fn used_record() -> Findings {
+    Findings {
+        minutes: [9; 64],
+        blame: [8; 96],
+    }
+}
+
+// A list has these numbers at its head, and this one at every other place.
+fn holds(rt: &impl Abort, list: &[u16], head: &[u16], rest: u16) {
+    for (place, number) in list.iter().enumerate() {
+        assert_eq!(rt; *number, head.get(place).copied().unwrap_or(rest));
+    }
+}
+
+// The scan ends so and writes these minutes or this blame to the head of the record's, and nothing else.
 fn settles<F: Field, R: Rows>(
     rt: &impl Abort,
     rows: &R,
@@ -70,17 +86,13 @@ fn settles<F: Field, R: Rows>(
     blame: &[u16],
 ) {
     let mut work = [65535; 8192];
-    let mut findings = Findings::new();
+    let mut findings = used_record();
     assert_eq!(rt;
         settle_by_scan::<F, R>(rows, &mut work, &mut findings),
         outcome
     );
-    for (minute, code) in findings.minutes.iter().enumerate() {
-        assert_eq!(rt; *code, minutes.get(minute).copied().unwrap_or(0));
-    }
-    for (row, number) in findings.blame.iter().enumerate() {
-        assert_eq!(rt; *number, blame.get(row).copied().unwrap_or(0));
-    }
+    holds(rt, &findings.minutes, minutes, 9);
+    holds(rt, &findings.blame, blame, 8);
 }
 
 #[test]
@@ -98,7 +110,7 @@ fn a_session_settles(rt: HostRuntime) -> Result<(), Fail> {
 
 #[test]
 fn small_rows_settle(rt: HostRuntime) -> Result<(), Fail> {
-    settles::<Prime, Table>(&rt, &rows_of(&rt, 2, &[])?, solved(0, 1), &[], &[]);
+    settles::<Prime, Table>(&rt, &rows_of(&rt, 2, &[])?, solved(0, 1), &[0, 0], &[]);
     settles::<Seven, Table>(
         &rt,
         &rows_of(&rt, 1, &[(6, &[term(0, 3)])])?,
@@ -125,7 +137,7 @@ fn small_rows_settle(rt: HostRuntime) -> Result<(), Fail> {
         64,
         &[(0, &[term(0, 1), term(63, 9)]), (0, &[term(5, 1)])],
     )?;
-    settles::<Prime, Table>(&rt, &zeros, solved(0, 1), &[], &[]);
+    settles::<Prime, Table>(&rt, &zeros, solved(0, 1), &[0; 64], &[]);
     Ok(())
 }
 
@@ -137,10 +149,10 @@ fn lies<F: Field>(
     side: Side,
     lie: Lie,
 ) -> Result<(), Fail> {
-    let table = rows_of(rt, 2, &[(0, &[term(0, 1)]), (3, &[term(1, 1)])])?;
+    let table = rows_of(rt, 3, &[(0, &[term(0, 1)]), (3, &[term(1, 1)])])?;
     let mut liar = Liar { honest, answer };
     let mut work = [0; 8192];
-    let mut findings = Findings::new();
+    let mut findings = used_record();
     let question = honest.saturating_add(1);
     let failed = Ok(Outcome::Failed(Failure {
         question,
@@ -151,6 +163,9 @@ fn lies<F: Field>(
         settle::<F, Table, Liar>(&table, &mut liar, &mut work, &mut findings),
         failed
     );
+    assert_eq!(rt; liar.honest, 0);
+    holds(rt, &findings.minutes, &[], 9);
+    holds(rt, &findings.blame, &[], 8);
     Ok(())
 }
 
@@ -162,8 +177,31 @@ fn lies_are_told(rt: HostRuntime) -> Result<(), Fail> {
         (Some(2), Lie::Outside(2)),
     ] {
         lies::<Prime>(&rt, 0, answer, Side::Row, lie)?;
+    }
+    for (answer, lie) in [
+        (None, Lie::Missed(1)),
+        (Some(2), Lie::Zero(2)),
+        (Some(3), Lie::Outside(3)),
+    ] {
         lies::<Octets>(&rt, 1, answer, Side::Column, lie)?;
     }
+    Ok(())
+}
+
+#[test]
+fn failures_are_written(rt: HostRuntime) -> Result<(), Fail> {
+    let outcome = Outcome::Failed(Failure {
+        question: 2,
+        side: Side::Column,
+        lie: Lie::Outside(3),
+    });
+    let text = OutcomeText {
+        outcome,
+        width: 3,
+        codes: &[],
+    };
+    let written = text.to_string(rt.alloc())?;
+    assert!(rt; written.as_bytes() == b"failed,2,column,outside,3".as_slice());
     Ok(())
 }
 
@@ -175,9 +213,7 @@ fn profiles<F: Field, R: Rows>(rt: &impl Abort, rows: &R, wanted: &[u16]) {
         profile::<F, R>(rows, &mut work, &mut list),
         Ok(wanted.len())
     );
-    for (place, row) in list.iter().enumerate() {
-        assert_eq!(rt; *row, wanted.get(place).copied().unwrap_or(7));
-    }
+    holds(rt, &list, wanted, 7);
 }
 
 #[test]
@@ -190,31 +226,46 @@ fn profiles_name_new_rows(rt: HostRuntime) -> Result<(), Fail> {
     let mut noted = Noted::<Prime, Table>::new(table);
     assert_eq!(rt; noted.note(1, 5), Ok(()));
     profiles::<Prime, Noted<Prime, Table>>(&rt, &noted, &[0]);
-    settles::<Prime, Noted<Prime, Table>>(&rt, &noted, contradiction(1, 4), &[], &[65519, 1]);
+    settles::<Prime, Noted<Prime, Table>>(&rt, &noted, contradiction(1, 4), &[], &[65519, 1, 0]);
     Ok(())
 }
 
 #[test]
-fn short_spaces_are_refused(rt: HostRuntime) -> Result<(), Fail> {
-    let table = rows_of(&rt, 2, &[])?;
-    let mut findings = Findings::new();
-    let short = Err(Refusal::SpaceTooShort);
+fn a_short_space_is_no_profile(rt: HostRuntime) -> Result<(), Fail> {
+    let table = rows_of(&rt, 2, &[(5, &[term(0, 1)])])?;
+    let mut work = [5; 8192];
+    let mut list = [7; 96];
+    for (words, places) in [(8191, 96), (8192, 95)] {
+        assert_eq!(rt;
+            profile::<Prime, Table>(&table, &mut work[..words], &mut list[..places]),
+            Err(Refusal::SpaceTooShort)
+        );
+    }
+    holds(&rt, &work, &[], 5);
+    holds(&rt, &list, &[], 7);
+    Ok(())
+}
+
+#[test]
+fn a_short_space_settles_nothing(rt: HostRuntime) -> Result<(), Fail> {
+    let table = rows_of(&rt, 2, &[(5, &[term(0, 1)])])?;
+    let mut liar = Liar {
+        honest: 3,
+        answer: None,
+    };
+    let mut work = [5; 8192];
+    let mut findings = used_record();
     assert_eq!(rt;
-        profile::<Prime, Table>(&table, &mut [0; 8191], &mut [0; 96]),
-        short
-    );
-    assert_eq!(rt;
-        profile::<Prime, Table>(&table, &mut [0; 8192], &mut [0; 95]),
-        short
-    );
-    assert_eq!(rt;
-        settle_by_scan::<Prime, Table>(&table, &mut [0; 8191], &mut findings),
+        settle::<Prime, Table, Liar>(&table, &mut liar, &mut work[..8191], &mut findings),
         Err(Refusal::SpaceTooShort)
     );
-    let mut scan = Scan;
+    assert_eq!(rt; liar.honest, 3);
+    holds(&rt, &work, &[], 5);
+    holds(&rt, &findings.minutes, &[], 9);
+    holds(&rt, &findings.blame, &[], 8);
     assert_eq!(rt;
-        settle::<Prime, Table, Scan>(&table, &mut scan, &mut [0; 8192], &mut findings),
-        solved(0, 1)
+        settle::<Prime, Table, Scan>(&table, &mut Scan, &mut work, &mut findings),
+        solved(1, 3)
     );
     Ok(())
 }

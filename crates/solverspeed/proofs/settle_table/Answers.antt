@@ -5,6 +5,8 @@ pub returns-in-Ok : goal.returns-in-Ok
 returns-in-Ok g c =
     record {
       from = c.new-findings.result;
+      minutes_long = c.new-findings.ensures.minutes.long;
+      blame_long = c.new-findings.ensures.blame.long;
       to = c.settle_by_scan.new.findings;
       outcome = c.in-Ok.outcome;
       settles = λ scan. (c.in-Ok.ensures.settles scan).1;

@@ -17,6 +17,8 @@ returns g c =
     let S = g.R.Rows.system c.args.rows.now in
     record {
       before = c.new-findings.result;
+      minutes_long = c.new-findings.ensures.minutes.long;
+      blame_long = c.new-findings.ensures.blame.long;
       settles = λ scan. (subst (SettlesIn K S (λ state S q. first_place K S q) (λ state S q. state) scan scan c.args.work.now c.settle_by_scan.new.work c.new-findings.result c.settle_by_scan.new.findings) c.unwrap-outcome.ensures (c.settle_by_scan.ensures.settles scan)).1;
       never_failed = subst (λ r. MatchResult r (λ o. IsFailed o → ⊥) (λ e. Unit {0})) c.unwrap-outcome.ensures c.settle_by_scan.ensures.never_fails;
     }

@@ -2,7 +2,7 @@ use Rattle.std.proofs.Common.{ℕ, sym, rules, ◌∙◌}
 use Rattle.field.specs.LawsForAll.{lawful}
 use Rattle.field.specs.Sums.{Σ}
 use Rattle.rows.specs.Values.{choice, entry}
-use Rattle.solver.proofs.Kernels.{dot_next, dot_skip}
+use Rattle.solver.proofs.Products.{dot_next, dot_skip}
 use Rattle.solver.proofs.questions.column_value.Goals as goal
 use Rattle.solver.proofs.questions.column_value.Goals.{then-factor-ne0, else-factor-ne0}
 

@@ -3,7 +3,7 @@ use Rattle.field.specs.LawsForAll.{lawful}
 use Rattle.algebra.specs.Vectors.{mul_vec}
 use Rattle.solver.specs.Spaces.{pivots_of}
 use Rattle.solver.proofs.Filling.{filled_next}
-use Rattle.solver.proofs.Kernels.{dot-of_row}
+use Rattle.solver.proofs.Products.{dot-of_row}
 use Rattle.solver.proofs.pivots.PivotSpace.times.Goals as goal
 
 pub loop-k-preserved : goal.loop-k-preserved
