@@ -95,6 +95,33 @@ fn settles<F: Field, R: Rows>(
     holds(rt, &findings.blame, blame, 8);
 }
 
+// A scout that lies after so many questions fails the settle, which writes nothing and asks it no more.
+fn lies<F: Field>(
+    rt: &impl Abort,
+    table: &Table,
+    honest: usize,
+    answer: Option<usize>,
+    side: Side,
+    lie: Lie,
+) {
+    let mut liar = Liar { honest, answer };
+    let mut work = [0; 8192];
+    let mut findings = used_record();
+    let question = honest.saturating_add(1);
+    let failed = Ok(Outcome::Failed(Failure {
+        question,
+        side,
+        lie,
+    }));
+    assert_eq!(rt;
+        settle::<F, Table, Liar>(table, &mut liar, &mut work, &mut findings),
+        failed
+    );
+    assert_eq!(rt; liar.honest, 0);
+    holds(rt, &findings.minutes, &[], 9);
+    holds(rt, &findings.blame, &[], 8);
+}
+
 #[test]
 fn a_session_settles(rt: HostRuntime) -> Result<(), Fail> {
     let mut table = rows_of(
@@ -105,6 +132,8 @@ fn a_session_settles(rt: HostRuntime) -> Result<(), Fail> {
     settles::<Prime, Table>(&rt, &table, solved(2, 5), &[5, 7], &[]);
     assert_eq!(rt; take(&mut table, 18, &[term(0, 2), term(1, 1)]), Ok(2));
     settles::<Prime, Table>(&rt, &table, contradiction(2, 6), &[], &[65520, 65520, 1]);
+    let last = rows_of(&rt, 2, &[(1, &[term(0, 1)]), (65520, &[term(1, 1)])])?;
+    lies::<Prime>(&rt, &last, 0, None, Side::Row, Lie::Missed(0));
     Ok(())
 }
 
@@ -141,49 +170,23 @@ fn small_rows_settle(rt: HostRuntime) -> Result<(), Fail> {
     Ok(())
 }
 
-// Row 0 is satisfied by minutes of 0, and row 1 is not; row 1 has a weight at minute 1 alone.
-fn lies<F: Field>(
-    rt: &impl Abort,
-    honest: usize,
-    answer: Option<usize>,
-    side: Side,
-    lie: Lie,
-) -> Result<(), Fail> {
-    let table = rows_of(rt, 3, &[(0, &[term(0, 1)]), (3, &[term(1, 1)])])?;
-    let mut liar = Liar { honest, answer };
-    let mut work = [0; 8192];
-    let mut findings = used_record();
-    let question = honest.saturating_add(1);
-    let failed = Ok(Outcome::Failed(Failure {
-        question,
-        side,
-        lie,
-    }));
-    assert_eq!(rt;
-        settle::<F, Table, Liar>(&table, &mut liar, &mut work, &mut findings),
-        failed
-    );
-    assert_eq!(rt; liar.honest, 0);
-    holds(rt, &findings.minutes, &[], 9);
-    holds(rt, &findings.blame, &[], 8);
-    Ok(())
-}
-
 #[test]
 fn lies_are_told(rt: HostRuntime) -> Result<(), Fail> {
+    // Minutes of 0 satisfy row 0 and not row 1, which has a weight at minute 1 alone.
+    let table = rows_of(&rt, 3, &[(0, &[term(0, 1)]), (3, &[term(1, 1)])])?;
     for (answer, lie) in [
         (None, Lie::Missed(1)),
         (Some(0), Lie::Zero(0)),
         (Some(2), Lie::Outside(2)),
     ] {
-        lies::<Prime>(&rt, 0, answer, Side::Row, lie)?;
+        lies::<Prime>(&rt, &table, 0, answer, Side::Row, lie);
     }
     for (answer, lie) in [
         (None, Lie::Missed(1)),
         (Some(2), Lie::Zero(2)),
         (Some(3), Lie::Outside(3)),
     ] {
-        lies::<Octets>(&rt, 1, answer, Side::Column, lie)?;
+        lies::<Octets>(&rt, &table, 1, answer, Side::Column, lie);
     }
     Ok(())
 }
