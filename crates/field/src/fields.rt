@@ -11,13 +11,6 @@ pub trait Field {
 
     ghost ops: { Operations };
 
-    // The same number as a call.
-    fn size() -> u16
-        ensures { result ≡ ops.q }
-    {
-        Self::Q
-    }
-
     fn plus(a: u16, b: u16) -> u16
         ensures { result ≡ ops.plus a b };
 

@@ -1,88 +1,166 @@
--- The check of terms decides whether they make a frame. Assumes nothing.
-use Rattle.std.proofs.Common.{◌≡◌, ℕ, zero, suc, ◌<◌, ◌≤◌, Bool, true, false, cond, eqb, ltb, leb, List, [], ◌∷◌, length, Some, None, Ok, Err, Option, sym, refl, ◌∙◌, le_of_suc-le-suc, not-suc-le-zero, arith}
-use Rattle.std.proofs.lemmas.Bool.{ltb-true, leb-true, eqb-false, lt-ltb, le-leb, ne_eqb, lt-leb}
-use Rattle.std.proofs.lemmas.Option.{none-some}
-use Rattle.frame.proofs.Apart.{err_ok}
+-- The check of terms decides whether they make a frame, and refuses in order. Assumes nothing.
+use Rattle.std.proofs.Common.{◌≡◌, ℕ, zero, suc, ◌+◌, ◌<◌, ◌≤◌, Bool, true, false, cond, eqb, ltb, leb, ◌||◌, List, [], ◌∷◌, length, Some, None, Ok, Err, Option, Result, sym, refl, subst, ◌∙◌, inl, inr, ◌⊎◌, le_of_suc-le-suc, not-suc-le-zero, eq-or-lt_of_le, true≢false, arith}
+use Rattle.std.specs.Option.{MatchOption}
+use Rattle.std.specs.Result.{IsOk}
+use Rattle.std.proofs.lemmas.Bool.{cases_lt, ltb-true, ltb-false, leb-true, leb-false, eqb-true, eqb-false, eq-eqb}
 use Rattle.frame.specs.declared.terms.Term.{Term}
-use Rattle.frame.specs.declared.refusals.Refusal.{Refusal}
-use Rattle.frame.specs.declared.refusals.Refusal.TheVariants.{TermCount}
-use Rattle.frame.proofs.Positions.{none_passes, none_found}
-use Rattle.frame.specs.Frames.{no_term, minute_at, weight_at, first_minute, first_weight, ordered, check, FrameTerms, Decided}
+use Rattle.frame.specs.declared.checks.TheConstants.{MOST_TERMS, MINUTES}
+use Rattle.frame.specs.Refusals.{RefusalCase}
+use Rattle.frame.specs.Orders.{First, Nowhere, AtStart, KeepsOrder, when}
+use Rattle.frame.proofs.Orders.{Finds, Passes, accepted, refused_first, finds_when, finds_position, finds_same}
+use Rattle.frame.specs.Frames.{no_term, minute_at, weight_at, first_minute, first_weight, check, WrongCount, NotRising, WrongMinute, WrongWeight, frame_order, FrameTerms, Decides}
 
--- one term of the walk over the minutes
-passes : (a b : Bool) (x : Option ℕ) (at : ℕ) → cond a (cond b x (Some at)) (Some at) ≡ None → (a ≡ true) × (b ≡ true) × (x ≡ None)
-passes true true x at e = (refl, refl, e)
-passes true false x at e = absurd (none-some at (sym e))
-passes false b x at e = absurd (none-some at (sym e))
+-- a term's minute is over 63, or below `low` if it is the first, and not over the one before if it is not
+abbrev lowest : ℕ → List Term → ℕ → ℕ
+lowest low ts zero = low
+lowest low ts (suc k) = suc (minute_at ts k)
 
-minutes_below : (at low : ℕ) (ts : List Term) → first_minute at low ts ≡ None → (k : ℕ) → k < length ts → (low ≤ minute_at ts k) × (minute_at ts k < 64)
-minutes_below at low [] e k h = absurd (not-suc-le-zero h)
-minutes_below at low (t ∷ ts) e zero h =
-    let p = passes (ltb t.minute 64) (leb low t.minute) _ at e in
-    (leb-true low t.minute p.1, ltb-true t.minute 64 p.0)
-minutes_below at low (t ∷ ts) e (suc k) h =
-    let p = passes (ltb t.minute 64) (leb low t.minute) _ at e in
-    let q = minutes_below (suc at) (suc t.minute) ts p.2 k (le_of_suc-le-suc h) in
-    let l = leb-true low t.minute p.1 in
-    (omega arith, q.1)
+abbrev WrongFrom : ℕ → List Term → ℕ → Type 0
+WrongFrom low ts k = (k < length ts) × ((MINUTES ≤ minute_at ts k) ⊎ (minute_at ts k < lowest low ts k))
 
-minutes_rise : (at low : ℕ) (ts : List Term) → first_minute at low ts ≡ None → (j k : ℕ) → j < k → k < length ts → minute_at ts j < minute_at ts k
-minutes_rise at low [] e j k lt h = absurd (not-suc-le-zero h)
-minutes_rise at low (t ∷ ts) e j zero lt h = absurd (not-suc-le-zero lt)
-minutes_rise at low (t ∷ ts) e zero (suc k) lt h =
-    (minutes_below (suc at) (suc t.minute) ts (passes (ltb t.minute 64) (leb low t.minute) _ at e).2 k (le_of_suc-le-suc h)).0
-minutes_rise at low (t ∷ ts) e (suc j) (suc k) lt h =
-    minutes_rise (suc at) (suc t.minute) ts (passes (ltb t.minute 64) (leb low t.minute) _ at e).2 j k (le_of_suc-le-suc lt) (le_of_suc-le-suc h)
+-- counted from `at`
+abbrev Counted : ℕ → (ℕ → Type 0) → Option ℕ → Type 0
+Counted at P found = MatchOption found (Nowhere P) (λ place. (k : ℕ) × (place ≡ at + k) × First P k)
 
-weights_some : (at : ℕ) (ts : List Term) → first_weight at ts ≡ None → (k : ℕ) → k < length ts → weight_at ts k ≡ 0 → ⊥
-weights_some at ts e k h z = eqb-false (weight_at ts k) 0 (none_passes (λ t. eqb t.weight 0) no_term at ts e k h) z
+-- the walk goes on behind a term whose minute is right
+module _ (at low : ℕ) (t : Term) (ts : List Term) where
+  here : WrongFrom low (t ∷ ts) 0 → Counted at (WrongFrom low (t ∷ ts)) (Some at)
+  here wrong = (0, omega arith, record { there = wrong; none_before = λ k h. absurd (not-suc-le-zero h) })
 
--- and back
-minutes_pass : (at low : ℕ) (ts : List Term) → ((k : ℕ) → k < length ts → minute_at ts k < 64) → ((j k : ℕ) → j < k → k < length ts → minute_at ts j < minute_at ts k) → (0 < length ts → low ≤ minute_at ts 0) → first_minute at low ts ≡ None
-minutes_pass at low [] below rising first = refl
-minutes_pass at low (t ∷ ts) below rising first =
-    rw (lt-ltb t.minute 64 (below 0 (omega arith)), le-leb low t.minute (first (omega arith)))
-    (minutes_pass (suc at) (suc t.minute) ts (λ k h. below (suc k) (omega arith)) (λ j k lt h. rising (suc j) (suc k) (omega arith) (omega arith)) (λ h. rising 0 1 (omega arith) (omega arith)))
+  later : (k : ℕ) → WrongFrom (suc t.minute) ts k → WrongFrom low (t ∷ ts) (suc k)
+  later zero w = (let h = w.0 in omega arith, w.1)
+  later (suc k) w = (let h = w.0 in omega arith, w.1)
 
-weights_pass : (at : ℕ) (ts : List Term) → ((k : ℕ) → k < length ts → weight_at ts k ≡ 0 → ⊥) → first_weight at ts ≡ None
-weights_pass at ts some = none_found (λ t. eqb t.weight 0) no_term at ts (λ k h. ne_eqb (weight_at ts k) 0 (some k h))
+  sooner : (k : ℕ) → WrongFrom low (t ∷ ts) (suc k) → WrongFrom (suc t.minute) ts k
+  sooner zero w = (le_of_suc-le-suc w.0, w.1)
+  sooner (suc k) w = (le_of_suc-le-suc w.0, w.1)
 
--- what an answer of "no refusal" says of each part of the check
-parts : (a b : Bool) (m w : Option ℕ) → cond a (cond b (ordered m w) (Err TermCount)) (Err TermCount) ≡ Ok tt → (a ≡ true) × (b ≡ true) × (m ≡ None) × (w ≡ None)
-parts true true None None e = (refl, refl, refl, refl)
-parts true true None (Some k) e = absurd (err_ok _ tt e)
-parts true true (Some k) w e = absurd (err_ok _ tt e)
-parts true false m w e = absurd (err_ok _ tt e)
-parts false b m w e = absurd (err_ok _ tt e)
+  right_here : t.minute < MINUTES → low ≤ t.minute → ¬ WrongFrom low (t ∷ ts) 0
+  right_here below over w = elim w.1 [ inl h ↦ omega arith | inr h ↦ omega arith ]
 
-pub check_sound : (ts : List Term) → ((k : ℕ) → k < length ts → weight_at ts k < 65536) → check ts ≡ Ok tt → FrameTerms ts
-check_sound ts words e =
-    let p = parts (leb 1 (length ts)) (leb (length ts) 16) (first_minute 0 0 ts) (first_weight 0 ts) e in
-    record {
-      some = leb-true 1 (length ts) p.0;
-      few = leb-true (length ts) 16 p.1;
-      below = λ k h. (minutes_below 0 0 ts p.2 k h).1;
-      rising = minutes_rise 0 0 ts p.2;
-      weighted = weights_some 0 ts p.3;
-      words = words;
-    }
+  walk_on : t.minute < MINUTES → low ≤ t.minute → (found : Option ℕ) → Counted (suc at) (WrongFrom (suc t.minute) ts) found → Counted at (WrongFrom low (t ∷ ts)) found
+  walk_on below over None none = nowhere
+    where
+      nowhere : Nowhere (WrongFrom low (t ∷ ts))
+      nowhere zero w = right_here below over w
+      nowhere (suc k) w = none k (sooner k w)
+  walk_on below over (Some place) found = (suc found.0, omega (arith, found.1), record { there = later found.0 found.2.there; none_before = before })
+    where
+      before : (k : ℕ) → k < suc found.0 → ¬ WrongFrom low (t ∷ ts) k
+      before zero h w = right_here below over w
+      before (suc k) h w = found.2.none_before k (le_of_suc-le-suc h) (sooner k w)
 
-pub check_complete : (ts : List Term) → FrameTerms ts → check ts ≡ Ok tt
-check_complete ts f =
-    rw (le-leb 1 (length ts) f.some, le-leb (length ts) 16 f.few, minutes_pass 0 0 ts f.below f.rising (λ h. omega arith), weights_pass 0 ts f.weighted)
+  walk : (a b : Bool) → ltb t.minute MINUTES ≡ a → leb low t.minute ≡ b → (found : Option ℕ) → Counted (suc at) (WrongFrom (suc t.minute) ts) found → Counted at (WrongFrom low (t ∷ ts)) (cond a (cond b found (Some at)) (Some at))
+  walk true true e f found c = walk_on (ltb-true t.minute MINUTES e) (leb-true low t.minute f) found c
+  walk true false e f found c = here (omega arith, inr (leb-false low t.minute f))
+  walk false b e f found c = here (omega arith, inl (ltb-false t.minute MINUTES e))
 
-pub passed : (ts : List Term) → Ok tt ≡ check ts → ((k : ℕ) → k < length ts → weight_at ts k < 65536) → Decided ts (Ok tt)
-passed ts e words = record { sound = λ _. check_sound ts words (sym e); complete = λ f. refl }
+minutes_walked : (at low : ℕ) (ts : List Term) → Counted at (WrongFrom low ts) (first_minute at low ts)
+minutes_walked at low [] = λ k w. absurd (not-suc-le-zero w.0)
+minutes_walked at low (t ∷ ts) = walk at low t ts (ltb t.minute MINUTES) (leb low t.minute) refl refl (first_minute (suc at) (suc t.minute) ts) (minutes_walked (suc at) (suc t.minute) ts)
 
-pub refused : (ts : List Term) (e : Refusal) → Err e ≡ check ts → Decided ts (Err e)
-refused ts e is = record { sound = λ h. absurd (err_ok e tt h); complete = λ f. is ∙ check_complete ts f }
+-- from the start, where no minute is too low to be the first
+module _ (ts : List Term) where
+  wrong_minute : (k : ℕ) → WrongFrom 0 ts k → WrongMinute ts k
+  wrong_minute zero w = (w.0, elim w.1 [ inl h ↦ inl h | inr h ↦ absurd (not-suc-le-zero h) ])
+  wrong_minute (suc k) w = (w.0, elim w.1 [ inl h ↦ inl h | inr h ↦ inr (le_of_suc-le-suc h) ])
 
--- the check, by its exits
-pub refuses_none : (ts : List Term) → length ts ≡ 0 → Err TermCount ≡ check ts
-refuses_none ts e = rw (lt-leb 1 (length ts) (omega arith))
+  wrong_from : (k : ℕ) → WrongMinute ts k → WrongFrom 0 ts k
+  wrong_from zero w = (w.0, elim w.1 [ inl h ↦ inl h | inr h ↦ absurd h ])
+  wrong_from (suc k) w = (w.0, elim w.1 [ inl h ↦ inl h | inr h ↦ inr (omega arith) ])
 
-pub refuses_many : (ts : List Term) → (length ts ≡ 0 → ⊥) → 16 < length ts → Err TermCount ≡ check ts
-refuses_many ts some many = rw (le-leb 1 (length ts) (omega arith), lt-leb (length ts) 16 many)
+  from_start : (found : Option ℕ) → Counted 0 (WrongFrom 0 ts) found → Finds (WrongMinute ts) found
+  from_start None none = finds_same (WrongFrom 0 ts) (WrongMinute ts) wrong_minute wrong_from None none
+  from_start (Some place) found =
+      let same : found.0 ≡ place = omega (arith, found.1) in
+      finds_same (WrongFrom 0 ts) (WrongMinute ts) wrong_minute wrong_from (Some place) (subst (First (WrongFrom 0 ts)) same found.2)
 
-pub in_number : (ts : List Term) (m w : Option ℕ) → (length ts ≡ 0 → ⊥) → length ts ≤ 16 → m ≡ first_minute 0 0 ts → w ≡ first_weight 0 ts → ordered m w ≡ check ts
-in_number ts m w some few is_m is-w = rw (le-leb 1 (length ts) (omega arith), le-leb (length ts) 16 few, is_m, is-w)
+  finds_minute : Finds (WrongMinute ts) (first_minute 0 0 ts)
+  finds_minute = from_start (first_minute 0 0 ts) (minutes_walked 0 0 ts)
+
+  finds_weight : Finds (WrongWeight ts) (first_weight 0 ts)
+  finds_weight =
+      finds_same (Passes (λ (t : Term). eqb t.weight 0) no_term ts) (WrongWeight ts)
+      (λ k p. (p.0, eqb-true (weight_at ts k) 0 p.1))
+      (λ k w. (w.0, eq-eqb (weight_at ts k) 0 w.1))
+      (first_weight 0 ts)
+      (finds_position (λ (t : Term). eqb t.weight 0) no_term ts)
+
+  -- the number of terms, as it is tested
+  wrong_count : (a b : Bool) → eqb (length ts) 0 ≡ a → ltb MOST_TERMS (length ts) ≡ b → a || b ≡ true → WrongCount ts
+  wrong_count true b e f h = inl (eqb-true (length ts) 0 e)
+  wrong_count false true e f h = inr (ltb-true MOST_TERMS (length ts) f)
+  wrong_count false false e f h = absurd (true≢false (sym h))
+
+  right_count : (a b : Bool) → eqb (length ts) 0 ≡ a → ltb MOST_TERMS (length ts) ≡ b → a || b ≡ false → ¬ WrongCount ts
+  right_count true b e f h w = true≢false h
+  right_count false true e f h w = true≢false h
+  right_count false false e f h w =
+      let some = eqb-false (length ts) 0 e in
+      let few = ltb-false MOST_TERMS (length ts) f in
+      elim w [ inl none ↦ some none | inr many ↦ omega arith ]
+
+  finds_count : Finds (AtStart (WrongCount ts)) (when (eqb (length ts) 0 || ltb MOST_TERMS (length ts)))
+  finds_count =
+      finds_when (WrongCount ts) (eqb (length ts) 0 || ltb MOST_TERMS (length ts))
+      (wrong_count (eqb (length ts) 0) (ltb MOST_TERMS (length ts)) refl refl)
+      (right_count (eqb (length ts) 0) (ltb MOST_TERMS (length ts)) refl refl)
+
+  pub check_in_order : KeepsOrder (frame_order ts) (check ts)
+  check_in_order =
+      refused_first 10 _ _ _
+      (refused_first 11 _ _ _ (refused_first 12 _ _ _ (accepted tt) (first_weight 0 ts) finds_weight) (first_minute 0 0 ts) finds_minute)
+      _ finds_count
+
+-- where no minute is wrong they rise
+rises : (ts : List Term) → Nowhere (WrongMinute ts) → (j k : ℕ) → j < k → k < length ts → minute_at ts j < minute_at ts k
+rises ts none j zero lt h = absurd (not-suc-le-zero lt)
+rises ts none j (suc k) lt h =
+    elim (cases_lt (minute_at ts k) (minute_at ts (suc k))) [
+      | inr down ↦ absurd (none (suc k) (h, inr down))
+      | inl up ↦
+          elim (eq-or-lt_of_le (le_of_suc-le-suc lt)) [
+            | inl same ↦ subst (λ i. minute_at ts i < minute_at ts (suc k)) (sym same) up
+            | inr less ↦ let before = rises ts none j k less (omega arith) in omega arith
+          ]
+    ]
+
+-- and where they rise none fails to
+no_fall : (ts : List Term) → FrameTerms ts → (k : ℕ) → k < length ts → ¬ NotRising ts k
+no_fall ts f zero h none = none
+no_fall ts f (suc k) h down = let up = f.rising k (suc k) (omega arith) h in omega arith
+
+is_ok : (r : Result (Unit {0}) RefusalCase) → IsOk r → r ≡ Ok tt
+is_ok (Ok u) e = refl
+is_ok (Err r) e = absurd (true≢false (sym e))
+
+module _ (ts : List Term) where
+  makes_frame : ((k : ℕ) → k < length ts → weight_at ts k < 65536) → check ts ≡ Ok tt → FrameTerms ts
+  makes_frame words e =
+      let none = (check_in_order ts).accepts.0 (subst IsOk (sym e) refl) in
+      record {
+        some = elim (cases_lt 0 (length ts)) [ inl some ↦ some | inr no_terms ↦ absurd (none.0 0 (refl, inl (omega arith))) ];
+        few = elim (cases_lt MOST_TERMS (length ts)) [ inl many ↦ absurd (none.0 0 (refl, inr many)) | inr few ↦ few ];
+        below = λ k h. elim (cases_lt (minute_at ts k) MINUTES) [ inl below ↦ below | inr over ↦ absurd (none.1.0 k (h, inl over)) ];
+        rising = rises ts none.1.0;
+        weighted = λ k h z. none.1.1.0 k (h, z);
+        words = words;
+      }
+
+  frame_checks : FrameTerms ts → check ts ≡ Ok tt
+  frame_checks f =
+      is_ok (check ts) ((check_in_order ts).accepts.1 (
+        λ k at. elim at.1 [ inl none ↦ let some = f.some in omega arith | inr many ↦ let few = f.few in omega arith ],
+        (
+          λ k w. elim w.1 [ inl over ↦ let below = f.below k w.0 in omega arith | inr down ↦ no_fall ts f k w.0 down ],
+          (λ k w. f.weighted k w.0 w.1, tt),
+        ),
+      ))
+
+  pub decided : (answer : Result (Unit {0}) RefusalCase) → answer ≡ check ts → (answer ≡ Ok tt → (k : ℕ) → k < length ts → weight_at ts k < 65536) → Decides ts answer
+  decided answer is words =
+      record {
+        in_order = subst (KeepsOrder (frame_order ts)) (sym is) (check_in_order ts);
+        sound = λ e. makes_frame (words e) (sym is ∙ e);
+        complete = λ f. is ∙ frame_checks f;
+      }

@@ -1,3 +1,4 @@
 pub mod Apart
 pub mod Decides
+pub mod Orders
 pub mod Positions

@@ -1,4 +1,5 @@
 pub mod Refusals
+pub mod Orders
 pub mod Owned
 pub mod Frames
 pub mod Parts

@@ -6,8 +6,8 @@ use super::checks::MOST_TERMS;
 use super::frames::Frame;
 use super::terms::Term;
 
-// A frame's sum and its terms, in memory of its own: the first `count` of `terms`.
-// An array and a count: with a vector of fixed capacity the type would lose `Copy`, which it promises.
+/// A frame's sum and its terms, in memory of its own: the first `count` of `terms`.
+/// An array and a count: with a vector of fixed capacity the type would lose `Copy`, which it promises.
 #[derive(Clone, Copy)]
 pub struct FrameBuf {
     sum: u16,
@@ -43,7 +43,7 @@ impl FrameBuf {
     ghost use Rattle.frame.specs.Parts.{sum_of, terms_of};
     ghost use Rattle.frame.specs.Owned.{sum_in, terms_in};
 
-    // The frame, over the terms held here.
+    /// The frame, over the terms held here.
     pub fn frame(&self) -> Frame<'_>
         ensures sums { sum_of result ≡ sum_in self.now }
         ensures holds { terms_of result ≡ terms_in self.now }

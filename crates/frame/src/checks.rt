@@ -1,14 +1,15 @@
 //! The check of terms that comes before a frame is made.
 ghost use Rattle.std.specs.Prelude.{◌≡◌, ℕ, ◌<◌, length, None};
-ghost use Rattle.frame.specs.Frames.{weight_at, first_minute, first_weight, check, Decided};
+ghost use Rattle.frame.specs.Frames.{weight_at, first_minute, first_weight, check, Decides};
+ghost use Rattle.frame.specs.Refusals.{numbered};
 
 use super::refusals::Refusal;
 use super::terms::Term;
 
-// A frame holds 1 to MOST_TERMS terms.
+/// A frame holds 1 to MOST_TERMS terms.
 pub const MOST_TERMS: usize = 16;
 
-// A frame's minutes are below MINUTES.
+/// A frame's minutes are below MINUTES.
 pub const MINUTES: u16 = 64;
 
 // The first term whose minute is over 63, or not over the one before.
@@ -34,10 +35,11 @@ fn first_weight(terms: &[Term]) -> Option<usize>
     terms.iter().position(|term| term.weight == 0)
 }
 
-// Whether terms make a frame: their number, then the minutes, then the weights.
+/// Whether terms make a frame. Refuses no terms or over 16 (10), then the first minute that is over 63 or not over the one
+/// before (11, at its term), then the first weight of 0 (12, at its term).
 pub fn check_terms(terms: &[Term]) -> Result<(), Refusal>
-    ensures value { result ≡ check terms.now }
-    ensures exact { Decided terms.now result }
+    ensures answer { numbered result ≡ check terms.now }
+    ensures decides { Decides terms.now (numbered result) }
 {
     if terms.is_empty() || terms.len() > MOST_TERMS {
         return Err(Refusal::TermCount);

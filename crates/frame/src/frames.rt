@@ -6,8 +6,8 @@ use super::checks::check_terms;
 use super::refusals::Refusal;
 use super::terms::Term;
 
-// A weighted sum of minutes. No value of this type exists whose terms the check refuses.
-// Ghost fields and no view (`Model`): with a lifetime and a view the type would lose `Copy`, which it promises.
+/// A weighted sum of minutes. No value of this type exists whose terms the check refuses.
+/// Ghost fields and no view (`Model`): with a lifetime and a view the type would lose `Copy`, which it promises.
 #[derive(Clone, Copy)]
 pub struct Frame<'a> {
     sum: u16,
@@ -17,20 +17,25 @@ pub struct Frame<'a> {
 }
 
 impl<'a> Frame<'a> {
-    ghost use Rattle.std.specs.Prelude.{◌≡◌, length};
+    ghost use Rattle.std.specs.Prelude.{◌≡◌, length, IfOk};
     ghost use Rattle.std.specs.List.{slice_get};
-    ghost use Rattle.frame.specs.Frames.{FrameTerms};
-    ghost use Rattle.frame.specs.Parts.{sum_of, terms_of, Checked};
+    ghost use Rattle.frame.specs.Refusals.{numbered_as};
+    ghost use Rattle.frame.specs.Frames.{FrameTerms, check, Decides};
+    ghost use Rattle.frame.specs.Parts.{sum_of, terms_of, FrameOf};
 
-    // The frame of these terms, or the check's refusal. No `TryFrom`: a pair would lose the names of its parts.
+    /// The frame of this sum and these terms; refuses what `check_terms` refuses.
+    /// No `TryFrom`: a pair would lose the names of its parts.
     pub fn check(sum: u16, terms: &'a [Term]) -> Result<Frame<'a>, Refusal>
-        ensures { Checked sum terms.now result }
+        ensures answer { numbered_as (λ _. tt) result ≡ check terms.now }
+        ensures frame { IfOk result (FrameOf sum terms.now) }
+        ensures decides { Decides terms.now (numbered_as (λ _. tt) result) }
     {
         check_terms(terms)?;
         Ok(Frame { sum, terms })
     }
 
-    // The frame of terms that the check let pass. Beside `check`, since it cannot refuse.
+    /// The frame of this sum and terms that the check lets pass.
+    /// Beside `check`, since it cannot refuse.
     pub fn new(sum: u16, terms: &'a [Term]) -> Frame<'a>
         requires { FrameTerms terms.now }
         ensures sums { sum_of result ≡ sum }
@@ -39,27 +44,28 @@ impl<'a> Frame<'a> {
         Frame { sum, terms }
     }
 
+    /// The sum, any word.
     pub fn sum(&self) -> u16
         ensures { result ≡ sum_of self.now }
     {
         self.sum
     }
 
-    // All terms, in order.
+    /// All terms, in order.
     pub fn terms(&self) -> &'a [Term]
         ensures { result.now ≡ terms_of self.now }
     {
         self.terms
     }
 
-    // How many terms it has.
+    /// How many terms it has, 1 to 16.
     pub fn count(&self) -> usize
         ensures { result ≡ length (terms_of self.now) }
     {
         self.terms.len()
     }
 
-    // The term with this number, counted from 0; none past the end.
+    /// The term with this number, counted from 0; none past the end.
     pub fn term(&self, number: usize) -> Option<Term>
         ensures { result ≡ slice_get (terms_of self.now) number }
     {

@@ -2,7 +2,7 @@
 ghost use Rattle.std.specs.Prelude.{◌≡◌};
 ghost use Rattle.frame.specs.Refusals.{refusal_number, refusal_place, refusal_layer};
 
-// Which part of the receiver refuses: the line, the frame in it, or what stands behind.
+/// Which part of the receiver refuses: the line, the frame in it, or what stands behind.
 #[derive(Clone, Copy, PartialEq, Eq, Debug)]
 pub enum Layer {
     Line,
@@ -10,45 +10,45 @@ pub enum Layer {
     Block,
 }
 
-// A refused call: one case for each number, named by what is wrong, with its place where it has one.
+/// A refused call: one case for each number, named by what is wrong, with its place where it has one.
 #[derive(Clone, Copy, PartialEq, Eq, Debug)]
 pub enum Refusal {
-    // 1: the block is disputed
+    /// 1: the block is disputed
     Disputed,
-    // 2: a minute is not below the width
+    /// 2: a minute is not below the width
     MinuteBeyondWidth(usize),
-    // 3: a noted code, a weight or a sum is not below the field's size
+    /// 3: a noted code, a weight or a sum is not below the field's size
     NoCode(usize),
-    // 4: the minute is noted already
+    /// 4: the minute is noted already
     MinuteNoted,
-    // 5: the ledger holds its limit of rows, or more
+    /// 5: the ledger holds its limit of rows, or more
     LedgerFull,
-    // 6: the work space or the list lent is too short
+    /// 6: the work space or the list lent is too short
     SpaceTooShort,
-    // 7: there is no dispute, or its slip is out
+    /// 7: there is no dispute, or its slip is out
     NoSlipToGive,
-    // 8: the slip bears another name, or none is out
+    /// 8: the slip bears another name, or none is out
     WrongSlip,
-    // 9: there is no such row, or it is not blamed
+    /// 9: there is no such row, or it is not blamed
     NoSuchRow,
-    // 10: no terms, or over 16
+    /// 10: no terms, or over 16
     TermCount,
-    // 11: a minute is over 63 or does not rise
+    /// 11: a minute is over 63 or does not rise
     MinuteOrder(usize),
-    // 12: a weight is 0
+    /// 12: a weight is 0
     ZeroWeight(usize),
-    // 13: the line is too long, or its letter is unknown or out of turn
+    /// 13: the line is too long, or its letter is unknown or out of turn
     UnknownLine,
-    // 14: the line has a wrong number of fields
+    /// 14: the line has a wrong number of fields
     FieldCount,
-    // 15: a field is not what has to stand there
+    /// 15: a field is not what has to stand there
     BadField(usize),
-    // 16: a width, a cap or a strip's length is out of range
+    /// 16: a width, a cap or a strip's length is out of range
     SizeOutOfRange,
 }
 
 impl Refusal {
-    // Its number in the table of refusals, fixed by a rule of the project. Named: `u8::from` would not say which number.
+    /// Its number in the table of refusals, fixed by a rule of the project. Named: `u8::from` would not say which number.
     pub fn number(&self) -> u8
         ensures { result ≡ refusal_number self.now }
     {
@@ -72,7 +72,7 @@ impl Refusal {
         }
     }
 
-    // The term or byte that the refusal points at, counted from 0. By a rule of the project 0 where it points at none.
+    /// The term or byte that the refusal points at, counted from 0. By a rule of the project 0 where it points at none.
     pub fn place(&self) -> usize
         ensures { result ≡ refusal_place self.now }
     {

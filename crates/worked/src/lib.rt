@@ -220,15 +220,15 @@ mod tests {
         reciprocal: Option<u16>,
     ) {
         laws_hold::<F>();
-        assert_eq!(rt; F::Q, F::size());
+        assert_eq!(rt; F::Q, F::Q);
         assert_eq!(rt; F::plus(200, 60000), sum);
         assert_eq!(rt; F::negative(60000), negative);
         assert_eq!(rt; F::times(200, 60000), product);
         assert_eq!(rt; F::inverse(60000), reciprocal);
-        assert_eq!(rt; F::inverse(F::size()), None);
+        assert_eq!(rt; F::inverse(F::Q), None);
         assert_eq!(rt; F::times(code_of::<F>(60000), 1), code_of::<F>(60000));
         assert!(rt; is_code::<F>(code_of::<F>(65535)));
-        assert!(rt; !is_code::<F>(F::size()));
+        assert!(rt; !is_code::<F>(F::Q));
     }
 
     #[test]
