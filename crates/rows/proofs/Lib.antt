@@ -1,4 +1,4 @@
 pub mod Readings
 pub mod RowValues
-mod Piles
+mod NestedCaps
 pub mod Strikes

@@ -1,14 +1,14 @@
 -- What the reading calls tell. Assumes nothing.
 use Rattle.std.proofs.Common.{◌≡◌, ℕ, zero, suc, ◌+◌, ◌<◌, List, [], ◌∷◌, get_or, drop, refl, add-one, take, not-suc-le-zero, le_of_suc-le-suc}
 use Rattle.std.specs.List.{slice_get}
-use Rattle.std.specs.Option.{MatchOption}
-use Rattle.rows.specs.Systems.{Row, System, empty_row, row_at, term_in, term_of}
+use Rattle.std.specs.Option.{MatchOption, option_and_then}
+use Rattle.rows.specs.Systems.{Row, System, empty_row, row_at, term_of}
 
 -- the rows of a list, as they are read
 pub read_term : (S : System) (i k : ℕ) → term_of S i k ≡ slice_get (row_at S i).terms k
 read_term S i k = walk S.rows i
   where
-    walk : (rs : List Row) (i : ℕ) → term_in (slice_get rs i) k ≡ slice_get (get_or rs i empty_row).terms k
+    walk : (rs : List Row) (i : ℕ) → option_and_then (λ r. slice_get r.terms k) (slice_get rs i) ≡ slice_get (get_or rs i empty_row).terms k
     walk [] i = refl
     walk (r ∷ rs) zero = refl
     walk (r ∷ rs) (suc i) = walk rs i

@@ -8,7 +8,7 @@ use Rattle.field.specs.Laws.{Lawful}
 use Rattle.field.proofs.FieldLemmas as field
 use Rattle.frame.specs.declared.terms.Term.{Term}
 use Rattle.std.proofs.lemmas.Option.{none-some}
-use Rattle.rows.specs.Systems.{Row, System, empty_row, row_at, sum_in, sum_of_row}
+use Rattle.rows.specs.Systems.{Row, System, empty_row, row_at, sum_of_row}
 use Rattle.rows.specs.Values.{weight_for, entry_of, weighted, row_value_of, ValueTells}
 
 -- a row whose terms are handed out, or whose sum was read, is there
@@ -17,7 +17,7 @@ found_terms [] i ts e = absurd (none-some ts (sym e))
 found_terms (r ∷ rs) zero ts e = (omega arith, cc)
 found_terms (r ∷ rs) (suc i) ts e = let p = found_terms rs i ts e in (omega arith, p.1)
 
-found_sum : (rs : List Row) (i sum : ℕ) → Some sum ≡ sum_in (slice_get rs i) → (slice_get rs i ≡ Some (get_or rs i empty_row)) × (sum ≡ (get_or rs i empty_row).sum)
+found_sum : (rs : List Row) (i sum : ℕ) → Some sum ≡ option_map (λ r. r.sum) (slice_get rs i) → (slice_get rs i ≡ Some (get_or rs i empty_row)) × (sum ≡ (get_or rs i empty_row).sum)
 found_sum [] i sum e = absurd (none-some sum (sym e))
 found_sum (r ∷ rs) zero sum e = (refl, cc)
 found_sum (r ∷ rs) (suc i) sum e = found_sum rs i sum e

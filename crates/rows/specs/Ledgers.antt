@@ -1,11 +1,13 @@
 -- What the calls of a ledger answer and leave. Assumes nothing.
-use Rattle.std.specs.Prelude.{ℕ, ◌≤◌, Bool, cond, List, [], ◌∷◌, ◌++◌, length, Some, None, Ok, Err, Option, Result, nat_le, nat_lt, slice_set}
+use Rattle.std.specs.Prelude.{ℕ, ◌<◌, ◌≤◌, List, [], ◌∷◌, ◌++◌, length, Ok, Err, Option, Result, nat_le, slice_set}
 use Rattle.std.specs.List.{position_from}
 use Rattle.frame.specs.declared.terms.Term.{Term}
 use Rattle.frame.specs.declared.frames.Frame.{Frame}
-use Rattle.frame.specs.declared.refusals.Refusal.{Refusal}
-use Rattle.frame.specs.declared.refusals.Refusal.TheVariants.{MinuteBeyondWidth, LedgerFull, NoSuchRow}
+use Rattle.frame.specs.Frames.{minute_at}
 use Rattle.frame.specs.Parts.{sum_of, terms_of}
+use Rattle.frame.specs.Refusals.{RefusalCase}
+use Rattle.frame.specs.Orders.{Order, nothing, rule, AtStart, refuse, when}
+use Rattle.rows.specs.declared.sizes.TheConstants.{MOST_ROWS}
 use Rattle.rows.specs.Systems.{Row, System, empty_row}
 
 -- a frame as a row
@@ -16,30 +18,37 @@ row_of f = record { sum = sum_of f; terms = terms_of f }
 abbrev pub first_beyond : ℕ → ℕ → List Term → Option ℕ
 first_beyond m at ts = position_from (λ t. nat_le m t.minute) at ts
 
--- take's answer with n rows there: the first term beyond the width goes before a full ledger
-abbrev pub admitted : Option ℕ → Bool → ℕ → Result ℕ Refusal
-admitted (Some term) room n = Err (MinuteBeyondWidth term)
-admitted None room n = cond room (Ok n) (Err LedgerFull)
+-- take's answer with n rows there: the first term beyond the width is refused before a full ledger
+abbrev pub admitted : Option ℕ → ℕ → ℕ → Result ℕ RefusalCase
+admitted beyond n limit = refuse 2 beyond (refuse 5 (when (nat_le limit n)) (Ok n))
 
-abbrev pub take_answer : System → ℕ → Row → Result ℕ Refusal
-take_answer S limit r = admitted (first_beyond S.width 0 r.terms) (nat_lt (length S.rows) limit) (length S.rows)
+abbrev pub take_answer : System → ℕ → Row → Result ℕ RefusalCase
+take_answer S limit r = admitted (first_beyond S.width 0 r.terms) (length S.rows) limit
+
+-- a term's minute is not below the width
+abbrev pub BeyondWidth : System → List Term → ℕ → Type 0
+BeyondWidth S ts k = (k < length ts) × (S.width ≤ minute_at ts k)
+
+-- the order in which take refuses: 2 for a minute beyond the width, then 5 for a full ledger
+abbrev pub take_order : System → ℕ → List Term → Order
+take_order S limit ts = rule 2 (BeyondWidth S ts) (rule 5 (AtStart (limit ≤ length S.rows)) nothing)
 
 abbrev pub appended : System → Row → System
 appended S r = record { width = S.width; rows = S.rows ++ (r ∷ []) }
 
 -- what take leaves, by its answer
-abbrev pub after_take : Result ℕ Refusal → System → Row → System
+abbrev pub after_take : {E : Type 0} → Result ℕ E → System → Row → System
 after_take (Ok n) S r = appended S r
 after_take (Err e) S r = S
 
-abbrev pub strike_answer : System → ℕ → Result (Unit {0}) Refusal
-strike_answer S i = cond (nat_lt i (length S.rows)) (Ok tt) (Err NoSuchRow)
+abbrev pub strike_answer : System → ℕ → Result (Unit {0}) RefusalCase
+strike_answer S i = refuse 9 (when (nat_le (length S.rows) i)) (Ok tt)
 
 abbrev pub struck : System → ℕ → System
 struck S i = record { width = S.width; rows = slice_set S.rows i empty_row }
 
 -- what strike leaves, by its answer
-abbrev pub after_strike : Result (Unit {0}) Refusal → System → ℕ → System
+abbrev pub after_strike : {E : Type 0} → Result (Unit {0}) E → System → ℕ → System
 after_strike (Ok u) S i = struck S i
 after_strike (Err e) S i = S
 
@@ -49,4 +58,4 @@ cleared S = record { width = S.width; rows = [] }
 -- a ledger's limit
 pub record LimitInRange (limit : ℕ) : Type 0 where
   pub some : 1 ≤ limit
-  pub most : limit ≤ 96
+  pub most : limit ≤ MOST_ROWS

@@ -2,9 +2,9 @@ pub mod Sizes
 pub mod Systems
 pub mod Ledgers
 pub mod Values
+pub mod Columns
 pub mod Caps
 pub mod Slots
 pub mod Tables
-pub mod SlotRows
-pub mod Beyond
 pub mod RowTerms
+pub mod Lemmas

@@ -1,17 +1,12 @@
 -- Checked sizes. Assumes nothing.
-use Rattle.std.specs.Prelude.{ℕ, cond, Ok, Err, Result, nat_le}
-use Rattle.frame.specs.declared.refusals.Refusal.{Refusal}
-use Rattle.frame.specs.declared.refusals.Refusal.TheVariants.{SizeOutOfRange}
+use Rattle.std.specs.Prelude.{ℕ, ◌||◌, Ok, Result, nat_lt}
+use Rattle.frame.specs.Refusals.{RefusalCase}
+use Rattle.frame.specs.Orders.{refuse, when}
 use Rattle.rows.specs.declared.sizes.Size.{Size}
 
-abbrev pub number_of : (most : ℕ) → Size most → ℕ
-number_of most s = s.number
+abbrev pub size_number : (most : ℕ) → Size most → ℕ
+size_number most s = s.number
 
--- the check's answer, with the number for the size
-abbrev pub number_in : (most : ℕ) → Result (Size most) Refusal → Result ℕ Refusal
-number_in most (Ok s) = Ok (number_of most s)
-number_in most (Err e) = Err e
-
--- a number from 1 to `most` is let through
-abbrev pub checked : ℕ → ℕ → Result ℕ Refusal
-checked most n = cond (nat_le 1 n) (cond (nat_le n most) (Ok n) (Err SizeOutOfRange)) (Err SizeOutOfRange)
+-- the check of a size: a number from 1 to `most` is let through
+abbrev pub size_answer : ℕ → ℕ → Result ℕ RefusalCase
+size_answer most n = refuse 16 (when (nat_lt n 1 || nat_lt most n)) (Ok n)

@@ -1,9 +1,10 @@
 -- What rows mean: a linear system with up to 64 unknowns and up to 96 equations. Assumes nothing.
-use Rattle.std.specs.Prelude.{ℕ, ◌<◌, ◌≤◌, List, [], length, Some, None, Option, slice_index_or}
+use Rattle.std.specs.Prelude.{ℕ, ◌<◌, ◌≤◌, List, [], length, Option, slice_index_or}
 use Rattle.std.specs.List.{slice_get}
-use Rattle.std.specs.Option.{option_map}
+use Rattle.std.specs.Option.{option_map, option_and_then}
 use Rattle.frame.specs.declared.terms.Term.{Term}
 use Rattle.frame.specs.Frames.{minute_at, weight_at}
+use Rattle.rows.specs.declared.sizes.TheConstants.{MOST_MINUTES, MOST_ROWS}
 
 -- an equation: the weights of the terms, times the codes at their minutes, add up to the sum
 pub record Row : Type 0 where
@@ -32,27 +33,16 @@ pub record WellFormedRow (m : ℕ) (r : Row) : Type 0 where
 -- what every rows keep
 pub record WellFormed (S : System) : Type 0 where
   pub some_minutes : 1 ≤ S.width
-  pub few_minutes : S.width ≤ 64
-  pub few_rows : length S.rows ≤ 96
+  pub few_minutes : S.width ≤ MOST_MINUTES
+  pub few_rows : length S.rows ≤ MOST_ROWS
   pub each : (i : ℕ) → i < length S.rows → WellFormedRow S.width (row_at S i)
-
--- what is read of a row that may not exist
-abbrev pub term_in : Option Row → ℕ → Option Term
-term_in None k = None
-term_in (Some r) k = slice_get r.terms k
-
-abbrev pub count_in : Option Row → Option ℕ
-count_in = option_map (λ r. length r.terms)
-
-abbrev pub sum_in : Option Row → Option ℕ
-sum_in = option_map (λ r. r.sum)
 
 -- the reading calls: a row or a term that does not exist gives none
 abbrev pub term_count_of : System → ℕ → Option ℕ
-term_count_of S i = count_in (slice_get S.rows i)
+term_count_of S i = option_map (λ r. length r.terms) (slice_get S.rows i)
 
 abbrev pub term_of : System → ℕ → ℕ → Option Term
-term_of S i k = term_in (slice_get S.rows i) k
+term_of S i k = option_and_then (λ r. slice_get r.terms k) (slice_get S.rows i)
 
 abbrev pub sum_of_row : System → ℕ → Option ℕ
-sum_of_row S i = sum_in (slice_get S.rows i)
+sum_of_row S i = option_map (λ r. r.sum) (slice_get S.rows i)

@@ -1,17 +1,22 @@
 //! A cap over a ledger.
 ghost use Rattle.std.specs.Prelude.{◌≡◌};
-ghost use Rattle.rows.specs.Ledgers.{row_of, take_answer, after_take};
-ghost use Rattle.rows.specs.Sizes.{number_of};
-ghost use Rattle.rows.specs.Caps.{own_number, ledger_below, cap_system, cap_limit, smaller_limit, PileLaw};
+ghost use Rattle.frame.specs.Refusals.{numbered};
+ghost use Rattle.frame.specs.Orders.{KeepsOrder};
+ghost use Rattle.frame.specs.Parts.{terms_of};
+ghost use Rattle.rows.specs.Ledgers.{row_of, take_answer, take_order, after_take, strike_answer, after_strike, cleared};
+ghost use Rattle.rows.specs.Sizes.{size_number};
+ghost use Rattle.rows.specs.Values.{OthersSatisfied};
+ghost use Rattle.rows.specs.Caps.{own_number, ledger_below, cap_system, cap_limit, two_caps_system, two_caps_limit, NestedCapsLaw};
+ghost use Rattle.rows.specs.Lemmas.Limits.{smaller_limit};
 
 use crate::ledgers::{Ledger, admit};
 use crate::reading::Rows;
-use crate::sizes::Limit;
+use crate::sizes::{Limit, MOST_ROWS};
 use frame::frames::Frame;
 use frame::refusals::Refusal;
 use frame::terms::Term;
 
-// A cap: a ledger over another one, which takes no more rows than its own number.
+/// A cap: a ledger over another one, which takes no more rows than its own number.
 #[derive(Drop)]
 pub struct Cap<L> {
     own: Limit,
@@ -19,21 +24,22 @@ pub struct Cap<L> {
 }
 
 impl<L> Cap<L> {
+    /// A cap of this number over a ledger, whose rows stay.
     pub fn new(own: Limit, below: L) -> Cap<L>
-        ensures own { own_number result ≡ number_of 96 own }
+        ensures own { own_number result ≡ size_number MOST_ROWS own }
         ensures below { ledger_below result ≡ below }
     {
         Cap { own, below }
     }
 
-    // The ledger below, for reading.
+    /// The ledger below, for reading.
     pub fn below(&self) -> &L
         ensures { result.now ≡ ledger_below self.now }
     {
         &self.below
     }
 
-    // The ledger below; the cap is gone.
+    /// The ledger below; the cap is gone.
     pub fn into_below(self) -> L
         ensures { result ≡ ledger_below self }
     {
@@ -76,33 +82,51 @@ impl<L: Ledger> Ledger for Cap<L> {
         self.own.number().min(self.below.limit())
     }
 
-    fn take(&mut self, frame: &Frame<'_>) -> Result<usize, Refusal> {
+    // Beside what every ledger promises, no call changes the cap's own number.
+    fn take(&mut self, frame: &Frame<'_>) -> Result<usize, Refusal>
+        ensures answer { numbered result ≡ take_answer (cap_system L.system self.old) (cap_limit L.most self.old) (row_of frame.now) }
+        ensures order { KeepsOrder (take_order (cap_system L.system self.old) (cap_limit L.most self.old) (terms_of frame.now)) (numbered result) }
+        ensures after { cap_system L.system self.new ≡ after_take result (cap_system L.system self.old) (row_of frame.now) }
+        ensures kept { cap_limit L.most self.new ≡ cap_limit L.most self.old }
+        ensures own { own_number self.new ≡ own_number self.old }
+    {
         admit(frame, self.width(), self.row_count(), self.own.number())?;
         self.below.take(frame)
     }
 
-    fn strike(&mut self, row: usize) -> Result<(), Refusal> {
+    fn strike(&mut self, row: usize) -> Result<(), Refusal>
+        ensures answer { numbered result ≡ strike_answer (cap_system L.system self.old) row }
+        ensures after { cap_system L.system self.new ≡ after_strike result (cap_system L.system self.old) row }
+        ensures others { OthersSatisfied (cap_system L.system self.old) (cap_system L.system self.new) row }
+        ensures kept { cap_limit L.most self.new ≡ cap_limit L.most self.old }
+        ensures own { own_number self.new ≡ own_number self.old }
+    {
         self.below.strike(row)
     }
 
-    fn clear(&mut self) {
+    fn clear(&mut self)
+        ensures after { cap_system L.system self.new ≡ cleared (cap_system L.system self.old) }
+        ensures kept { cap_limit L.most self.new ≡ cap_limit L.most self.old }
+        ensures own { own_number self.new ≡ own_number self.old }
+    {
         self.below.clear();
     }
 }
 
-// Takes a frame into a ledger under two caps. Its contract is the one of every ledger.
-pub fn take_into_pile<L: Ledger>(
-    pile: &mut Cap<Cap<L>>,
+/// Takes a frame into a ledger under two caps, as every ledger takes one.
+pub fn take_under_caps<L: Ledger>(
+    caps: &mut Cap<Cap<L>>,
     frame: &Frame<'_>,
 ) -> Result<usize, Refusal>
-    ensures answer { result ≡ take_answer (⟦<Cap<Cap<L>> as Rows>⟧.system pile.old) (⟦<Cap<Cap<L>> as Ledger>⟧.most pile.old) (row_of frame.now) }
-    ensures after { ⟦<Cap<Cap<L>> as Rows>⟧.system pile.new ≡ after_take result (⟦<Cap<Cap<L>> as Rows>⟧.system pile.old) (row_of frame.now) }
-    ensures kept { ⟦<Cap<Cap<L>> as Ledger>⟧.most pile.new ≡ ⟦<Cap<Cap<L>> as Ledger>⟧.most pile.old }
+    ensures answer { numbered result ≡ take_answer (two_caps_system L.system caps.old) (two_caps_limit L.most caps.old) (row_of frame.now) }
+    ensures after { two_caps_system L.system caps.new ≡ after_take result (two_caps_system L.system caps.old) (row_of frame.now) }
+    ensures kept { two_caps_limit L.most caps.new ≡ two_caps_limit L.most caps.old }
+    ensures own { own_number caps.new ≡ own_number caps.old }
 {
-    pile.take(frame)
+    caps.take(frame)
 }
 
-// However many caps are piled up: they mean what they stand on, and the smallest limit counts.
-pub fn piles_mean_their_base<L: Ledger>()
-    ensures { PileLaw L.system L.most }
+/// However many caps stand over a ledger: they mean what it means, and the smallest limit counts.
+pub fn nested_caps_mean_their_base<L: Ledger>()
+    ensures { NestedCapsLaw L.system L.most }
 {}

@@ -1,45 +1,48 @@
 //! Ledgers: rows that are taken, struck and cleared.
-ghost use Rattle.std.specs.Prelude.{◌≡◌, ℕ, nat_lt};
+ghost use Rattle.std.specs.Prelude.{◌≡◌, ℕ};
+ghost use Rattle.frame.specs.Refusals.{numbered};
+ghost use Rattle.frame.specs.Orders.{KeepsOrder};
 ghost use Rattle.frame.specs.Parts.{terms_of};
-ghost use Rattle.rows.specs.Ledgers.{LimitInRange, row_of, first_beyond, admitted, take_answer, after_take, strike_answer, after_strike, cleared};
+ghost use Rattle.rows.specs.Ledgers.{LimitInRange, row_of, first_beyond, admitted, take_answer, take_order, after_take, strike_answer, after_strike, cleared};
 ghost use Rattle.rows.specs.Values.{OthersSatisfied};
 
 use crate::reading::Rows;
 use frame::frames::Frame;
 use frame::refusals::Refusal;
 
-// A ledger: rows that come from frames, one for each. No call changes the width or the limit.
+/// A ledger: rows that come from frames, one for each. No call changes the width or the limit.
 pub trait Ledger: Rows {
     ghost most: { Self → ℕ };
 
-    // How many rows there may be before take refuses.
+    /// How many rows there may be before take refuses, 1 to 96.
     fn limit(&self) -> usize
         ensures { result ≡ most self.now };
 
-    // Appends the frame as the last row and returns its number; refuses a minute that is not below the width (2), then
-    // a frame where there are limit rows or more (5).
+    /// Appends the frame as the last row and returns its number. Refuses the first term whose minute is not below the width
+    /// (2, at that term), then a frame where there are limit rows or more (5); a refusal leaves the rows as they were.
     fn take(&mut self, frame: &Frame<'_>) -> Result<usize, Refusal>
-        ensures answer { result ≡ take_answer (Self.Rows.system self.old) (most self.old) (row_of frame.now) }
-        ensures after { Self.Rows.system self.new ≡ after_take result (Self.Rows.system self.old) (row_of frame.now) }
+        ensures answer { numbered result ≡ take_answer (Self.system self.old) (most self.old) (row_of frame.now) }
+        ensures order { KeepsOrder (take_order (Self.system self.old) (most self.old) (terms_of frame.now)) (numbered result) }
+        ensures after { Self.system self.new ≡ after_take result (Self.system self.old) (row_of frame.now) }
         ensures kept { most self.new ≡ most self.old };
 
-    // Makes a row empty; refuses a row that does not exist (9). The other rows keep their numbers, and each choice of
-    // minutes satisfies one of them just where it did.
+    /// Makes a row empty, with no terms and sum 0. The other rows keep their numbers, and each choice of minutes satisfies
+    /// one of them just where it did. Refuses a row that does not exist (9), and then leaves the rows as they were.
     fn strike(&mut self, row: usize) -> Result<(), Refusal>
-        ensures answer { result ≡ strike_answer (Self.Rows.system self.old) row }
-        ensures after { Self.Rows.system self.new ≡ after_strike result (Self.Rows.system self.old) row }
-        ensures others { OthersSatisfied (Self.Rows.system self.old) (Self.Rows.system self.new) row }
+        ensures answer { numbered result ≡ strike_answer (Self.system self.old) row }
+        ensures after { Self.system self.new ≡ after_strike result (Self.system self.old) row }
+        ensures others { OthersSatisfied (Self.system self.old) (Self.system self.new) row }
         ensures kept { most self.new ≡ most self.old };
 
-    // Removes all rows.
+    /// Removes all rows.
     fn clear(&mut self)
-        ensures after { Self.Rows.system self.new ≡ cleared (Self.Rows.system self.old) }
+        ensures after { Self.system self.new ≡ cleared (Self.system self.old) }
         ensures kept { most self.new ≡ most self.old };
 
     ghost limited: { (ledger : Self) → LimitInRange (most ledger) };
 }
 
-// The first term whose minute is not below the width.
+/// The first term whose minute is not below the width; none where all are.
 pub fn first_beyond(frame: &Frame<'_>, width: usize) -> Option<usize>
     ensures { result ≡ first_beyond width 0 (terms_of frame.now) }
 {
@@ -49,9 +52,9 @@ pub fn first_beyond(frame: &Frame<'_>, width: usize) -> Option<usize>
         .position(|term| width <= usize::from(term.minute))
 }
 
-// The number that a frame's row gets in a ledger of this width and limit that holds `rows` rows, or the refusal.
+/// The number that a frame's row gets in a ledger of this width and limit that holds `rows` rows. Refuses as `take` does.
 pub fn admit(frame: &Frame<'_>, width: usize, rows: usize, limit: usize) -> Result<usize, Refusal>
-    ensures { result ≡ admitted (first_beyond width 0 (terms_of frame.now)) (nat_lt rows limit) rows }
+    ensures { numbered result ≡ admitted (first_beyond width 0 (terms_of frame.now)) rows limit }
 {
     match first_beyond(frame, width) {
         Some(term) => Err(Refusal::MinuteBeyondWidth(term)),

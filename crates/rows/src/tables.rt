@@ -1,11 +1,11 @@
 //! A table.
-ghost use Rattle.std.specs.Prelude.{◌≡◌, ℕ, ◌<◌, ◌≤◌, length, slice_index_or, None};
+ghost use Rattle.std.specs.Prelude.{◌≡◌, ℕ, ◌<◌, ◌≤◌, length};
 ghost use Rattle.frame.specs.Frames.{minute_at};
-ghost use Rattle.rows.specs.Slots.{slot_row};
+ghost use Rattle.rows.specs.Slots.{slot_terms};
 
 use crate::ledgers::{Ledger, admit};
 use crate::reading::Rows;
-use crate::sizes::{MOST_ROWS, Width};
+use crate::sizes::{MOST_MINUTES, MOST_ROWS, Width};
 use frame::buffers::FrameBuf;
 use frame::frames::Frame;
 use frame::refusals::Refusal;
@@ -14,7 +14,7 @@ use frame::terms::Term;
 // A row's place in a table: the frame that was taken, or none once it is struck.
 type Slot = Option<FrameBuf>;
 
-// A table: a ledger in memory of its own. Its rows are the first `count` slots.
+/// A table: a ledger of up to 96 rows in memory of its own. Its rows are the first `count` slots.
 // An array and a count: with a vector of fixed capacity the type would lose `Copy`, which it promises.
 #[derive(Clone, Copy)]
 pub struct Table {
@@ -23,19 +23,19 @@ pub struct Table {
     slots: [Slot; MOST_ROWS],
     ghost room: { length slots ≡ 96 },
     ghost few: { count ≤ 96 },
-    ghost below: { (i k : ℕ) → i < count → k < length (slot_row (slice_index_or slots i None)).terms → minute_at (slot_row (slice_index_or slots i None)).terms k < width.number },
+    ghost below: { (i k : ℕ) → i < count → k < length (slot_terms slots i) → minute_at (slot_terms slots i) k < width.number },
 }
 
 impl Table {
     ghost use Rattle.std.specs.Prelude.{◌≡◌, [], take};
     ghost use Rattle.std.specs.List.{slice_get};
     ghost use Rattle.std.specs.Option.{option_map};
-    ghost use Rattle.rows.specs.Sizes.{number_of};
+    ghost use Rattle.rows.specs.Sizes.{size_number};
     ghost use Rattle.rows.specs.Tables.{system_of};
 
-    // A table without rows.
+    /// A table without rows.
     pub fn new(width: Width) -> Table
-        ensures { system_of result ≡ record { width = number_of 64 width; rows = [] } }
+        ensures { system_of result ≡ record { width = size_number MOST_MINUTES width; rows = [] } }
     {
         Table {
             width,
@@ -54,7 +54,7 @@ impl Table {
 
 impl Rows for Table {
     ghost use Rattle.rows.specs.Tables.{system_of};
-    ghost use Rattle.rows.specs.SlotRows.{table_formed};
+    ghost use Rattle.rows.specs.Lemmas.SlotRows.{table_formed};
 
     ghost system = { system_of };
 
@@ -92,7 +92,7 @@ impl Rows for Table {
 }
 
 impl Ledger for Table {
-    ghost use Rattle.rows.specs.SlotRows.{table_limited};
+    ghost use Rattle.rows.specs.Lemmas.SlotRows.{table_limited};
 
     ghost most = { λ _. 96 };
 

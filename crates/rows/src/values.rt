@@ -7,9 +7,9 @@ use crate::reading::Rows;
 use crate::terms::terms;
 use field::fields::{Field, code_of};
 
-// A[i,c]: the weight at a minute in a row as a code, 0 without such a term; none where there is no such row or minute.
+/// A[i,c]: the weight at a minute in a row as a code, 0 without such a term; none where there is no such row or minute.
 pub fn entry<F: Field, R: Rows>(rows: &R, row: usize, minute: usize) -> Option<u16>
-    ensures { result ≡ entry_of F.Field.ops (R.Rows.system rows.now) row minute }
+    ensures { result ≡ entry_of F.ops (R.system rows.now) row minute }
 {
     let mut terms = terms(rows, row)?;
     if minute >= rows.width() {
@@ -20,10 +20,11 @@ pub fn entry<F: Field, R: Rows>(rows: &R, row: usize, minute: usize) -> Option<u
     Some(code_of::<F>(weight))
 }
 
-// A choice of minutes: a number for each, which is read as a code.
+/// A choice of minutes: a number for each, which is read as a code.
 pub trait Choice {
     ghost codes: { Self → ℕ → ℕ };
 
+    /// The number that is chosen for a minute.
     fn code(&self, minute: u16) -> u16
         ensures { result ≡ codes self.now minute };
 }
@@ -37,11 +38,11 @@ impl Choice for &[u16] {
     }
 }
 
-// A row's sum less its weights times the numbers that are chosen at their minutes; none where there is no such row. Each
-// term is read once.
+/// A row's sum less its weights times the numbers that are chosen at their minutes, a code, and 0 just where the choice
+/// satisfies the row; none where there is no such row. Each term is read once.
 pub fn row_value<F: Field, R: Rows, X: Choice>(rows: &R, row: usize, x: &X) -> Option<u16>
-    ensures value { result ≡ row_value_of F.Field.ops (R.Rows.system rows.now) row (X.Choice.codes x.now) }
-    ensures tells { ValueTells F.Field.ops (row_at (R.Rows.system rows.now) row) (X.Choice.codes x.now) }
+    ensures value { result ≡ row_value_of F.ops (R.system rows.now) row (X.codes x.now) }
+    ensures tells { ValueTells F.ops (row_at (R.system rows.now) row) (X.codes x.now) }
 {
     let sum = rows.sum(row)?;
     let total = terms(rows, row)?.fold(0, |total, term| {

@@ -1,9 +1,7 @@
-use Rattle.std.proofs.Common.{Ok, Err, refl, sym, ap, subst, arith}
-use Rattle.frame.specs.declared.refusals.Refusal.TheVariants.{NoSuchRow}
-use Rattle.std.proofs.lemmas.Bool.{cond_below}
+use Rattle.std.proofs.Common.{rules, refl, sym, ap, subst}
 use Rattle.rows.specs.Values.{OthersSatisfied}
 use Rattle.rows.specs.Tables.{system_of}
-use Rattle.rows.specs.SlotRows.{row_count, rows_struck, slots_fit}
+use Rattle.rows.specs.Lemmas.SlotRows.{row_count, rows_struck, slots_fit}
 use Rattle.rows.proofs.Strikes.{struck_others}
 use Rattle.rows.proofs.tables.TableLedger.strike.Goals as goal
 
@@ -14,7 +12,7 @@ returns c =
     let counted = row_count t.count t.slots (slots_fit t) in
     let gone = rows_struck t.count t.slots row c.if-row-self.false in
     record {
-      answer = cond_below _ _ (Ok tt) (Err NoSuchRow) (omega (arith, c.if-row-self.false));
+      answer = search rules;
       after = ap (λ rows. record { width = t.width.number; rows = rows }) gone;
       others = subst (λ rows. OthersSatisfied (system_of t) (record { width = t.width.number; rows = rows }) row) (sym gone) (struck_others (system_of t) row);
       kept = refl;

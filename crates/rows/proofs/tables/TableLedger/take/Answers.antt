@@ -1,5 +1,8 @@
-use Rattle.std.proofs.Common.{◌∙◌, arith, length-set}
-use Rattle.rows.specs.SlotRows.{table_answer, has_room, still_below}
+use Rattle.std.proofs.Common.{◌∙◌, arith, rules, length-set}
+use Rattle.rows.specs.Lemmas.SlotRows.{table_answer, has_room, still_below}
+use Rattle.rows.specs.Ledgers.{row_of}
+use Rattle.rows.specs.Tables.{system_of}
+use Rattle.rows.specs.Lemmas.Beyond.{answer_in_order}
 use Rattle.rows.proofs.tables.TableLedger.take.Goals as goal
 
 pub invariant_of-self : goal.invariant_of-self
@@ -14,3 +17,9 @@ invariant_of-self c =
       few = omega arith;
       below = still_below t c.from.result f row c.from.ensures.1 answer;
     }
+
+pub returns-in_err-row-clause-order : goal.returns-in_err-row-clause-order
+returns-in_err-row-clause-order c = answer_in_order (system_of c.args.self.now) 96 (row_of c.args.frame.now) _ (search (rules, table_answer c.args.self.now c.number.result 96 c.args.frame.now c.number.ensures))
+
+pub returns-clause-order : goal.returns-clause-order
+returns-clause-order c = answer_in_order (system_of c.args.self.now) 96 (row_of c.args.frame.now) _ (c.in_ok-row.ensures ∙ table_answer c.args.self.now c.number.result 96 c.args.frame.now c.number.ensures)

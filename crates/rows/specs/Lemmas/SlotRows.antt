@@ -1,5 +1,5 @@
 -- The rows of a table's slots. Assumes nothing.
-use Rattle.std.specs.Prelude.{◌≡◌, ℕ, ◌+◌, ◌<◌, ◌≤◌, List, map, length, take, Some, None, Ok, Option, nat_lt, slice_index_or, slice_set}
+use Rattle.std.specs.Prelude.{◌≡◌, ℕ, ◌+◌, ◌<◌, ◌≤◌, List, map, length, take, Some, None, Ok, Option, slice_index_or, slice_set}
 use Rattle.std.proofs.Common.{sym, ap, subst, ◌∙◌, inl, inr, arith, lit≤, not-suc-le-zero}
 use Rattle.std.proofs.Math.Seq.{take-set-lt}
 use Rattle.std.proofs.lemmas.List.{length-map, length-take-le, get_or-map, get_or-take, get_or-set_same, get_or-set_other, map-set}
@@ -14,7 +14,7 @@ use Rattle.rows.specs.Systems.{empty_row, WellFormedRow, WellFormed}
 use Rattle.rows.specs.Ledgers.{LimitInRange, row_of, first_beyond, admitted, take_answer}
 use Rattle.rows.specs.Slots.{slot_row}
 use Rattle.rows.specs.Tables.{system_of}
-use Rattle.rows.specs.Beyond.{taken_below, taken_room, taken_number}
+use Rattle.rows.specs.Lemmas.Beyond.{taken_below, taken_room, taken_number}
 
 -- the rows of the first n slots
 module _ (n : ℕ) (slots : List (Option FrameBuf)) (fits : n ≤ length slots) where
@@ -59,10 +59,10 @@ pub table_limited : (t : Table) → LimitInRange 96
 table_limited t = record { some = lit≤ tt; most = lit≤ tt }
 
 -- take's answer, by the number of slots counted
-pub table_answer : (t : Table) (m limit : ℕ) (f : Frame) → m ≡ t.width.number → admitted (first_beyond m 0 (terms_of f)) (nat_lt t.count limit) t.count ≡ take_answer (system_of t) limit (row_of f)
+pub table_answer : (t : Table) (m limit : ℕ) (f : Frame) → m ≡ t.width.number → admitted (first_beyond m 0 (terms_of f)) t.count limit ≡ take_answer (system_of t) limit (row_of f)
 table_answer t m limit f wide =
-    ap (λ w. admitted (first_beyond w 0 (terms_of f)) (nat_lt t.count limit) t.count) wide
-    ∙ ap (λ n. admitted (first_beyond t.width.number 0 (terms_of f)) (nat_lt n limit) n) (sym (row_count t.count t.slots (slots_fit t)))
+    ap (λ w. admitted (first_beyond w 0 (terms_of f)) t.count limit) wide
+    ∙ ap (λ n. admitted (first_beyond t.width.number 0 (terms_of f)) n limit) (sym (row_count t.count t.slots (slots_fit t)))
 
 -- a frame that is admitted goes into the next slot
 module _ (t : Table) (held : FrameBuf) (f : Frame) (row : ℕ) (holds : terms_in held ≡ terms_of f) (admits : Ok row ≡ take_answer (system_of t) 96 (row_of f)) where
