@@ -135,7 +135,7 @@ is_ok (Ok u) e = refl
 is_ok (Err r) e = absurd (true≢false (sym e))
 
 module _ (ts : List Term) where
-  makes_frame : ((k : ℕ) → k < length ts → weight_at ts k < 65536) → check ts ≡ Ok tt → FrameTerms ts
+  pub makes_frame : ((k : ℕ) → k < length ts → weight_at ts k < 65536) → check ts ≡ Ok tt → FrameTerms ts
   makes_frame words e =
       let none = (check_in_order ts).accepts.0 (subst IsOk (sym e) refl) in
       record {
@@ -147,7 +147,7 @@ module _ (ts : List Term) where
         words = words;
       }
 
-  frame_checks : FrameTerms ts → check ts ≡ Ok tt
+  pub frame_checks : FrameTerms ts → check ts ≡ Ok tt
   frame_checks f =
       is_ok (check ts) ((check_in_order ts).accepts.1 (
         λ k at. elim at.1 [ inl none ↦ let some = f.some in omega arith | inr many ↦ let few = f.few in omega arith ],
