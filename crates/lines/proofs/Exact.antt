@@ -5,10 +5,10 @@ use Rattle.std.proofs.lemmas.Fmt.{length-decimal-le}
 use Rattle.std.proofs.lemmas.List.{length-map}
 use Rattle.std.proofs.lemmas.Bool.{eqb-true, eq-eqb, cond-true}
 use Rattle.frame.specs.declared.terms.Term.{Term}
-use Rattle.frame.specs.declared.refusals.Refusal.{Refusal}
+use Rattle.frame.specs.Refusals.{RefusalCase}
 use Rattle.frame.specs.Frames.{minute_at, weight_at, check}
 use Rattle.frame.proofs.Apart.{err_ok}
-use Rattle.frame.proofs.Decides.{check_sound, check_complete}
+use Rattle.frame.proofs.Decides.{makes_frame, frame_checks}
 use Rattle.frame.specs.declared.frames.Frame.{Frame}
 use Rattle.frame.specs.Parts.{sum_of, terms_of}
 use Rattle.lines.specs.Writing.{OneLine}
@@ -35,7 +35,7 @@ written_numbers [] at w = refl
 written_numbers (n ∷ ns) at w =
     rw (number_written (decimal n) n w.0 refl, written_numbers ns (suc (at + length (decimal n))) w.1)
 
-one_number : (o : Option ℕ) (e : Refusal) (rest : Result (List ℕ) Refusal) (ns : List ℕ) → and_then (ok_or o e) (λ n. map_ok (λ ms. n ∷ ms) rest) ≡ Ok ns → (n : ℕ) × (ms : List ℕ) × (o ≡ Some n) × (rest ≡ Ok ms) × (ns ≡ n ∷ ms)
+one_number : (o : Option ℕ) (e : RefusalCase) (rest : Result (List ℕ) RefusalCase) (ns : List ℕ) → and_then (ok_or o e) (λ n. map_ok (λ ms. n ∷ ms) rest) ≡ Ok ns → (n : ℕ) × (ms : List ℕ) × (o ≡ Some n) × (rest ≡ Ok ms) × (ns ≡ n ∷ ms)
 one_number None e rest ns h = absurd (err_ok _ _ h)
 one_number (Some n) e (Err d) ns h = absurd (err_ok _ _ h)
 one_number (Some n) e (Ok ms) ns h = (n, ms, refl, refl, cc)
@@ -103,11 +103,11 @@ kind_read None fs c h = absurd (err_ok _ _ h)
 kind_read (Some kinds.Open) fs c h = absurd (err_ok _ _ h)
 kind_read (Some kinds.Frame) fs c h = (refl, h)
 
-numbers_passed : (r : Result (List ℕ) Refusal) (c : Content) → and_then r frame_of ≡ Ok c → (ns : List ℕ) × (r ≡ Ok ns) × (frame_of ns ≡ Ok c)
+numbers_passed : (r : Result (List ℕ) RefusalCase) (c : Content) → and_then r frame_of ≡ Ok c → (ns : List ℕ) × (r ≡ Ok ns) × (frame_of ns ≡ Ok c)
 numbers_passed (Ok ns) c h = (ns, refl, h)
 numbers_passed (Err e) c h = absurd (err_ok _ _ h)
 
-check_passed : (r : Result (Unit {0}) Refusal) (x c : Content) → map_ok (λ _. x) r ≡ Ok c → (r ≡ Ok tt) × (x ≡ c)
+check_passed : (r : Result (Unit {0}) RefusalCase) (x c : Content) → map_ok (λ _. x) r ≡ Ok c → (r ≡ Ok tt) × (x ≡ c)
 check_passed (Ok u) x c h = (refl, cc)
 check_passed (Err e) x c h = absurd (err_ok _ _ h)
 
@@ -132,7 +132,7 @@ fields_only ps at s ts h =
     let words = subst Words back is.1 in (
       record {
         word = words.0;
-        terms = check_sound ts (words_weights ts words.1) (subst (λ l. check l ≡ Ok tt) frame.2 frame.3);
+        terms = makes_frame ts (words_weights ts words.1) (subst (λ l. check l ≡ Ok tt) frame.2 frame.3);
       },
       is.0 ∙ ap (map decimal) back,
     )
@@ -145,7 +145,7 @@ fields_each s ts at f =
     cond-true (eqb (length fs % 2) 1) _ _ (eq-eqb (length fs % 2) 1 odd)
     ∙ ap (λ r. and_then r frame_of) (written_numbers (s ∷ flat ts) at (frame_words s ts f))
     ∙ ap (checked s) (pairs-flat ts)
-    ∙ ap (map_ok (λ _. content s ts)) (check_complete ts f.terms)
+    ∙ ap (map_ok (λ _. content s ts)) (frame_checks ts f.terms)
 
 -- the whole line, and back
 pub line_only : (line : List ℕ) (s : ℕ) (ts : List Term) → read line ≡ Ok (content s ts) → IsFrame s ts × (line ≡ line_of s ts)
@@ -163,7 +163,7 @@ line_each s ts f =
     ∙ ap read_fields (written_rest kinds.Frame parts whole)
     ∙ fields_each s ts 2 f
 
-pub reads_frame : (line : List ℕ) (r : Result Content Refusal) → r ≡ read line → ReadsFrame line r
+pub reads_frame : (line : List ℕ) (r : Result Content RefusalCase) → r ≡ read line → ReadsFrame line r
 reads_frame line r is =
     record {
       only = λ s ts h. line_only line s ts (sym is ∙ h);

@@ -2,7 +2,7 @@
 use Rattle.std.proofs.Common.{◌≡◌, ℕ, ◌<◌, List, ◌∷◌, [], ◌++◌, length, take, drop, Err, None, sym, ap, ◌∙◌, ⊎_elim, arith}
 use Rattle.std.proofs.lemmas.List.{take_all, length-take-le}
 use Rattle.std.proofs.lemmas.Bool.{cases_lt}
-use Rattle.frame.specs.declared.refusals.Refusal.TheVariants.{UnknownLine}
+use Rattle.frame.specs.Refusals.{refused}
 use Rattle.lines.specs.Answers.{answer_of, answer_to}
 use Rattle.lines.specs.Entries.{by_kind, read_entry}
 use Rattle.lines.specs.Fields.{fields_of}
@@ -24,7 +24,7 @@ pub front_kind : (line : List ℕ) → line_kind (take 257 line) ≡ line_kind l
 front_kind = front_same line_kind None long_unknown
 
 pub front_answer : (line : List ℕ) → answer_to (take 257 line) ≡ answer_to line
-front_answer line = ap (λ r. answer_of r ++ 10 ∷ []) (front_same read (Err UnknownLine) (λ l h. ap (λ k. frame_only k (drop 1 (fields_of l))) (long_unknown l h)) line)
+front_answer line = ap (λ r. answer_of r ++ 10 ∷ []) (front_same read (Err (refused 13 0)) (λ l h. ap (λ k. frame_only k (drop 1 (fields_of l))) (long_unknown l h)) line)
 
 pub front_entry : (line : List ℕ) → read_entry (take 257 line) ≡ read_entry line
-front_entry = front_same read_entry (Err UnknownLine) (λ l h. ap (λ k. by_kind k (drop 1 (fields_of l))) (long_unknown l h))
+front_entry = front_same read_entry (Err (refused 13 0)) (λ l h. ap (λ k. by_kind k (drop 1 (fields_of l))) (long_unknown l h))

@@ -4,7 +4,7 @@ use Rattle.std.specs.Option.{option_and_then, ok_or}
 use Rattle.std.proofs.lemmas.Fmt.{length-decimal-le}
 use Rattle.std.proofs.lemmas.Bool.{eqb-true}
 use Rattle.std.proofs.lemmas.Option.{none-some}
-use Rattle.frame.specs.declared.refusals.Refusal.{Refusal}
+use Rattle.frame.specs.Refusals.{RefusalCase}
 use Rattle.frame.proofs.Apart.{err_ok}
 use Rattle.lines.specs.declared.kinds.LineKind.{LineKind}
 use Rattle.lines.specs.declared.kinds.LineKind.TheVariants as kinds
@@ -27,7 +27,7 @@ passed : {X E : Type 0} (o : Option X) (e : E) (x : X) → ok_or o e ≡ Ok x �
 passed None e x h = absurd (err_ok _ _ h)
 passed (Some y) e x h = cc
 
-both_passed : (r : Result FieldName Refusal) (n : Result ℕ Refusal) (o : Opening) → and_then r (λ name. map_ok (opening name) n) ≡ Ok o → (r ≡ Ok o.field) × (n ≡ Ok o.width)
+both_passed : (r : Result FieldName RefusalCase) (n : Result ℕ RefusalCase) (o : Opening) → and_then r (λ name. map_ok (opening name) n) ≡ Ok o → (r ≡ Ok o.field) × (n ≡ Ok o.width)
 both_passed (Err e) n o h = absurd (err_ok _ _ h)
 both_passed (Ok name) (Err e) o h = absurd (err_ok _ _ h)
 both_passed (Ok name) (Ok w) o h = let e : opening name w ≡ o = cc in (ap (λ p. Ok p.field) e, ap (λ p. Ok p.width) e)
@@ -75,7 +75,7 @@ module _ (o : Opening) where
       ∙ ap (λ fs. map_ok opens (read_opening fs)) (written_rest kinds.Open parts (whole word))
       ∙ ap (map_ok opens) (fields_each 2 word)
 
-opens_passed : (r : Result Opening Refusal) (o : Opening) → map_ok opens r ≡ Ok (opens o) → r ≡ Ok o
+opens_passed : (r : Result Opening RefusalCase) (o : Opening) → map_ok opens r ≡ Ok (opens o) → r ≡ Ok o
 opens_passed (Ok p) o h = cc
 opens_passed (Err e) o h = absurd (err_ok _ _ h)
 
@@ -83,7 +83,7 @@ opens_read : (k : Option LineKind) (fs : List Field) (o : Opening) → by_kind k
 opens_read None fs o h = absurd (err_ok _ _ h)
 opens_read (Some kinds.Open) fs o h = (refl, opens_passed (read_opening fs) o h)
 opens_read (Some kinds.Frame) fs o h = absurd (no_frame (read_fields fs) h) where
-  no_frame : (r : Result Content Refusal) → map_ok carries r ≡ Ok (opens o) → ⊥
+  no_frame : (r : Result Content RefusalCase) → map_ok carries r ≡ Ok (opens o) → ⊥
   no_frame (Ok c) h = cc
   no_frame (Err e) h = err_ok _ _ h
 
@@ -95,14 +95,14 @@ opening_only line o h =
     (got.0, b.is ∙ ap (λ ps. join 44 ((79 ∷ []) ∷ ps)) got.1)
 
 -- a line carries a frame where it is read as one
-carries_passed : (r : Result Content Refusal) (c : Content) → map_ok carries r ≡ Ok (carries c) → r ≡ Ok c
+carries_passed : (r : Result Content RefusalCase) (c : Content) → map_ok carries r ≡ Ok (carries c) → r ≡ Ok c
 carries_passed (Ok d) c h = cc
 carries_passed (Err e) c h = absurd (err_ok _ _ h)
 
 carries_read : (k : Option LineKind) (fs : List Field) (c : Content) → by_kind k fs ≡ Ok (carries c) → frame_only k fs ≡ Ok c
 carries_read None fs c h = absurd (err_ok _ _ h)
 carries_read (Some kinds.Open) fs c h = absurd (no_opening (read_opening fs) h) where
-  no_opening : (r : Result Opening Refusal) → map_ok opens r ≡ Ok (carries c) → ⊥
+  no_opening : (r : Result Opening RefusalCase) → map_ok opens r ≡ Ok (carries c) → ⊥
   no_opening (Ok o) h = cc
   no_opening (Err e) h = err_ok _ _ h
 carries_read (Some kinds.Frame) fs c h = carries_passed (read_fields fs) c h
@@ -133,7 +133,7 @@ said_by_kind (Some kinds.Frame) fs entry h = ap Some (carries_only (read_fields 
 pub kind_read : (line : List ℕ) (entry : Said) → read_entry line ≡ Ok entry → line_kind line ≡ Some (kind_said entry)
 kind_read line entry = said_by_kind (line_kind line) _ entry
 
-pub reads_entry : (line : List ℕ) (r : Result Said Refusal) → r ≡ read_entry line → ReadsEntry line r
+pub reads_entry : (line : List ℕ) (r : Result Said RefusalCase) → r ≡ read_entry line → ReadsEntry line r
 reads_entry line r is =
     record {
       only_opening = λ o h. opening_only line o (sym is ∙ h);

@@ -3,8 +3,7 @@ use Rattle.std.specs.Prelude.{◌≡◌, ℕ, cond, List, [], ◌∷◌, ◌++�
 use Rattle.frame.specs.declared.terms.Term.{Term}
 use Rattle.frame.specs.declared.refusals.Layer.{Layer}
 use Rattle.frame.specs.declared.refusals.Layer.TheVariants.{Line, Frame, Block}
-use Rattle.frame.specs.declared.refusals.Refusal.{Refusal}
-use Rattle.frame.specs.Refusals.{refusal_number, refusal_place, refusal_layer}
+use Rattle.frame.specs.Refusals.{RefusalCase, layer_at}
 use Rattle.lines.specs.declared.kinds.LineKind.{LineKind}
 use Rattle.lines.specs.declared.kinds.LineKind.TheVariants as kinds
 use Rattle.lines.specs.Fields.{join}
@@ -18,24 +17,24 @@ layer_name Frame = codes "frame"
 layer_name Block = codes "block"
 
 -- letter, refused, layer, number, place
-abbrev pub refused_line : Option LineKind → Refusal → List ℕ
-refused_line kind r = join 44 ((shown_letter kind ∷ []) ∷ codes "refused" ∷ layer_name (refusal_layer r) ∷ decimal (refusal_number r) ∷ decimal (refusal_place r) ∷ [])
+abbrev pub refused_line : Option LineKind → RefusalCase → List ℕ
+refused_line kind r = join 44 ((shown_letter kind ∷ []) ∷ codes "refused" ∷ layer_name (layer_at r.number) ∷ decimal r.number ∷ decimal r.place ∷ [])
 
 -- letter, ok, number
 abbrev pub accepted_line : Option LineKind → ℕ → List ℕ
 accepted_line kind n = join 44 ((shown_letter kind ∷ []) ∷ codes "ok" ∷ decimal n ∷ [])
 
 -- the answer to a line of this kind: accepted with a number, or refused
-abbrev pub answer_line : Option LineKind → Result ℕ Refusal → List ℕ
+abbrev pub answer_line : Option LineKind → Result ℕ RefusalCase → List ℕ
 answer_line kind (Ok n) = accepted_line kind n
 answer_line kind (Err r) = refused_line kind r
 
 -- the kind of a line that a log check refuses: a frame's, or unknown, which is 13
-abbrev pub kind_refused : Refusal → Option LineKind
-kind_refused r = cond (refusal_number r == 13) None (Some kinds.Frame)
+abbrev pub kind_refused : RefusalCase → Option LineKind
+kind_refused r = cond (r.number == 13) None (Some kinds.Frame)
 
 -- a frame's own line, or the refusal
-abbrev pub answer_of : Result Content Refusal → List ℕ
+abbrev pub answer_of : Result Content RefusalCase → List ℕ
 answer_of (Ok c) = line_of c.sum c.terms
 answer_of (Err r) = refused_line (kind_refused r) r
 

@@ -1,5 +1,6 @@
 //! The answers to lines.
 ghost use Rattle.std.specs.Prelude.{◌≡◌, ◌<◌, ◌≤◌, ◌∷◌, [], ◌++◌, length};
+ghost use Rattle.frame.specs.Refusals.{refusal_case, numbered};
 ghost use Rattle.lines.specs.Answers.{layer_name, kind_refused, refused_line, accepted_line, answer_line, answer_to, Echoes};
 ghost use Rattle.lines.specs.Writing.{Appends};
 
@@ -23,7 +24,7 @@ fn layer_name(layer: Layer) -> &'static str
 
 // Makes a line the answer to a refused one, without the byte that ends it. Not by `Display` either.
 fn put_refusal(line: &mut Line, kind: Option<LineKind>, refusal: Refusal)
-    ensures value { line.new.bytes ≡ refused_line kind refusal }
+    ensures value { line.new.bytes ≡ refused_line kind (refusal_case refusal) }
     ensures short { length line.new.bytes ≤ 256 }
 {
     line.clear();
@@ -60,7 +61,7 @@ pub fn write_answer(
     kind: Option<LineKind>,
     answer: Result<usize, Refusal>,
 ) -> Result<(), AllocError>
-    ensures { Appends out.old out.new (answer_line kind answer ++ 10 ∷ []) 257 result }
+    ensures { Appends out.old out.new (answer_line kind (numbered answer) ++ 10 ∷ []) 257 result }
 {
     let mut text = Line::new();
     match answer {
@@ -72,7 +73,7 @@ pub fn write_answer(
 
 // The kind of a line that a log check refuses: a frame's, or unknown.
 fn kind_refused(refusal: Refusal) -> Option<LineKind>
-    ensures { result ≡ kind_refused refusal }
+    ensures { result ≡ kind_refused (refusal_case refusal) }
 {
     match refusal {
         Refusal::UnknownLine => None,

@@ -1,6 +1,6 @@
 //! The reader of a line of any kind.
 ghost use Rattle.std.specs.Prelude.{◌≡◌};
-ghost use Rattle.lines.specs.Reading.{map_ok};
+ghost use Rattle.frame.specs.Refusals.{numbered_as};
 ghost use Rattle.lines.specs.Entries.{said, read_entry, ReadsEntry};
 
 use super::fields::count_fields;
@@ -21,8 +21,8 @@ pub enum Entry {
 
 // What a line says.
 pub fn read_entry(line: &[u8]) -> Result<Entry, Refusal>
-    ensures value { map_ok said result ≡ read_entry line.now }
-    ensures exact { ReadsEntry line.now (map_ok said result) }
+    ensures value { numbered_as said result ≡ read_entry line.now }
+    ensures exact { ReadsEntry line.now (numbered_as said result) }
 {
     let (kind, fields) = split_kind(line).ok_or(Refusal::UnknownLine)?;
     let count = count_fields(line) - 1;

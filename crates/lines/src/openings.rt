@@ -1,5 +1,6 @@
 //! The reader of the line that opens an hour.
 ghost use Rattle.std.specs.Prelude.{◌≡◌, length, drop};
+ghost use Rattle.frame.specs.Refusals.{numbered};
 ghost use Rattle.lines.specs.Tokens.{to_come};
 ghost use Rattle.lines.specs.Openings.{first_name, read_opening};
 
@@ -26,7 +27,7 @@ pub struct Opening {
 
 // The name that the next field is.
 fn read_name(fields: &mut Fields<'_>) -> Result<FieldName, Refusal>
-    ensures value { result ≡ first_name (to_come fields.old) }
+    ensures value { numbered result ≡ first_name (to_come fields.old) }
     ensures rest { to_come fields.new ≡ drop 1 (to_come fields.old) }
 {
     let token = fields.next().ok_or(Refusal::FieldCount)?;
@@ -40,7 +41,7 @@ fn read_name(fields: &mut Fields<'_>) -> Result<FieldName, Refusal>
 // The opening that the fields behind the letter write, of which there are `count`.
 pub(crate) fn read_opening(mut fields: Fields<'_>, count: usize) -> Result<Opening, Refusal>
     requires { count ≡ length (to_come fields) }
-    ensures { result ≡ read_opening (to_come fields.entry) }
+    ensures { numbered result ≡ read_opening (to_come fields.entry) }
 {
     if count != 2 {
         return Err(Refusal::FieldCount);

@@ -1,8 +1,9 @@
 //! The kind of a line, and the reader of a frame's line.
 ghost use Rattle.std.specs.Prelude.{◌≡◌, ◌+◌, length, drop};
+ghost use Rattle.frame.specs.Refusals.{numbered, numbered_as};
 ghost use Rattle.lines.specs.Tokens.{to_come, first_letter};
 ghost use Rattle.lines.specs.Kinds.{line_kind};
-ghost use Rattle.lines.specs.Reading.{content_of, map_ok, SplitKind, first_number, ReadsTerms, read_fields, read, ReadsFrame};
+ghost use Rattle.lines.specs.Reading.{content_of, SplitKind, first_number, ReadsTerms, read_fields, read, ReadsFrame};
 
 use super::fields::{Fields, count_fields};
 use super::kinds::LineKind;
@@ -49,7 +50,7 @@ pub fn line_kind(line: &[u8]) -> Option<LineKind>
 
 // The number of the next field.
 pub(crate) fn read_number(fields: &mut Fields<'_>) -> Result<u16, Refusal>
-    ensures value { result ≡ first_number (to_come fields.old) }
+    ensures value { numbered result ≡ first_number (to_come fields.old) }
     ensures rest { to_come fields.new ≡ drop 1 (to_come fields.old) }
 {
     let token = fields.next().ok_or(Refusal::FieldCount)?;
@@ -63,7 +64,7 @@ pub(crate) fn read_number(fields: &mut Fields<'_>) -> Result<u16, Refusal>
 // Fields with their number, here and below: it is counted once for the line, and a struct would serve two calls.
 fn read_terms(mut fields: Fields<'_>, count: usize) -> Result<ArrayVec<Term, MOST_TERMS>, Refusal>
     requires { length (to_come fields) ≡ count + count }
-    ensures { ReadsTerms (to_come fields.entry) count result }
+    ensures { ReadsTerms (to_come fields.entry) count (numbered result) }
 {
     let mut terms = ArrayVec::new();
     for _ in 0..count {
@@ -79,7 +80,7 @@ fn read_terms(mut fields: Fields<'_>, count: usize) -> Result<ArrayVec<Term, MOS
 // The frame that the fields behind the letter write, of which there are `count`.
 pub(crate) fn read_fields(mut fields: Fields<'_>, count: usize) -> Result<FrameBuf, Refusal>
     requires { count ≡ length (to_come fields) }
-    ensures { map_ok content_of result ≡ read_fields (to_come fields.entry) }
+    ensures { numbered_as content_of result ≡ read_fields (to_come fields.entry) }
 {
     if count % 2 == 0 {
         return Err(Refusal::FieldCount);
@@ -96,8 +97,8 @@ pub(crate) fn read_fields(mut fields: Fields<'_>, count: usize) -> Result<FrameB
 
 // The frame that a line carries.
 pub fn read_frame(line: &[u8]) -> Result<FrameBuf, Refusal>
-    ensures value { map_ok content_of result ≡ read line.now }
-    ensures exact { ReadsFrame line.now (map_ok content_of result) }
+    ensures value { numbered_as content_of result ≡ read line.now }
+    ensures exact { ReadsFrame line.now (numbered_as content_of result) }
 {
     let Some((LineKind::Frame, fields)) = split_kind(line) else {
         return Err(Refusal::UnknownLine);
