@@ -16,7 +16,7 @@ use Rattle.frame.specs.Frames.{no_term, minute_at}
 use Rattle.rows.specs.Systems.{Row, System, empty_row, row_at, WellFormedRow}
 use Rattle.rows.specs.Values.{weight_for, entry, column_value}
 use Rattle.algebra.proofs.Sums.{Σ-zero, Σ-suc, Σ-code}
-use Rattle.solver.specs.Slices.{Codes, Holds}
+use Rattle.solver.specs.Slices.{Codes, IsVector}
 
 -- no term has this minute
 abbrev pub Without : List Term → ℕ → Type 0
@@ -124,7 +124,7 @@ pub record ColumnSums (K : Operations) (S : System) (u : ℕ → ℕ) (r : ℕ) 
   pub each : (c : ℕ) → c < 64 → slice_index values c ≡ Σ K r (λ i. K.times (u i) (entry K S i c))
 
 module _ (F : Lawful) (S : System) (u : ℕ → ℕ) where
-  pub sums_start : (values : List ℕ) → Holds 64 (λ _. 0) values → ColumnSums F.ops S u 0 values
+  pub sums_start : (values : List ℕ) → IsVector 64 (λ _. 0) values → ColumnSums F.ops S u 0 values
   sums_start values H = record { long = H.long; each = λ c h. H.each c h ∙ sym (Σ-zero F (λ i. F.ops.times (u i) (entry F.ops S i c))) }
 
   pub sums_codes : (r : ℕ) (values : List ℕ) → ColumnSums F.ops S u r values → Codes F.ops.q values
@@ -144,5 +144,5 @@ module _ (F : Lawful) (S : System) (u : ℕ → ℕ) where
             ∙ ap (λ n. Σ F.ops n (λ i. F.ops.times (u i) (entry F.ops S i c))) more;
       }
 
-  pub sums_end : (r : ℕ) (values : List ℕ) → ColumnSums F.ops S u r values → r ≡ length S.rows → Holds 64 (column_value F.ops S u) values
+  pub sums_end : (r : ℕ) (values : List ℕ) → ColumnSums F.ops S u r values → r ≡ length S.rows → IsVector 64 (column_value F.ops S u) values
   sums_end r values C e = record { long = C.long; each = λ c h. C.each c h ∙ ap (λ n. Σ F.ops n (λ i. F.ops.times (u i) (entry F.ops S i c))) e }

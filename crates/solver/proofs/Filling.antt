@@ -5,7 +5,7 @@ use Rattle.std.proofs.lemmas.List.{ext_get_or, get_or-set_same, get_or-set_other
 use Rattle.std.specs.List.{range_with_len}
 use Rattle.std.proofs.lemmas.List.FromFn.{length-map-range_with_len, get_or-map-range_with_len}
 use Rattle.field.specs.Slices.{Filled}
-use Rattle.solver.specs.Slices.{Holds}
+use Rattle.solver.specs.Slices.{IsVector}
 
 module _ (f : ℕ → ℕ) (before : List ℕ) where
   pub filled_none : Filled 0 f before before
@@ -23,12 +23,12 @@ module _ (f : ℕ → ℕ) (before : List ℕ) where
       }
 
 -- the list of f's values
-pub list_of_values : (n : ℕ) (f : ℕ → ℕ) (xs : List ℕ) → Holds n f xs → xs ≡ map f (range_with_len 0 n)
+pub list_of_values : (n : ℕ) (f : ℕ → ℕ) (xs : List ℕ) → IsVector n f xs → xs ≡ map f (range_with_len 0 n)
 list_of_values n f xs H =
     ext_get_or 0 xs (map f (range_with_len 0 n)) (H.long ∙ sym (length-map-range_with_len f 0 n))
     (λ i h. H.each i (omega (arith, H.long)) ∙ sym (get_or-map-range_with_len f 0 n i i 0 (omega (arith, H.long)) (omega arith)))
 
-pub values_hold : (n : ℕ) (f : ℕ → ℕ) → Holds n f (map f (range_with_len 0 n))
+pub values_hold : (n : ℕ) (f : ℕ → ℕ) → IsVector n f (map f (range_with_len 0 n))
 values_hold n f = record { long = length-map-range_with_len f 0 n; each = λ k h. get_or-map-range_with_len f 0 n k k 0 h (omega arith) }
 
 pub values_same : (n m : ℕ) (f g : ℕ → ℕ) → n ≡ m → ((k : ℕ) → k < m → f k ≡ g k) → map f (range_with_len 0 n) ≡ map g (range_with_len 0 m)

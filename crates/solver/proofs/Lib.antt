@@ -1,7 +1,7 @@
 pub mod AddedRows
 pub mod Searches
 pub mod Values
-pub mod Judging
+pub mod Verifying
 pub mod Filling
 pub mod Products
 pub mod Placing
@@ -14,4 +14,4 @@ pub mod Puts
 pub mod Running
 pub mod RunLaws
 pub mod Completing
-pub mod Looking
+pub mod Eliminating

@@ -7,10 +7,11 @@ use Rattle.algebra.specs.Places.{Distinct, Outside}
 use Rattle.algebra.specs.Vectors.{place, unit_minus}
 use Rattle.algebra.proofs.Sums.{place-at, place-elsewhere, unit_minus-own, unit_minus-at, unit_minus-elsewhere}
 use Rattle.algebra.proofs.Counting.{Among-or_Outside}
-use Rattle.solver.specs.Slices.{Holds, Placed}
+use Rattle.solver.specs.Slices.{IsVector}
+use Rattle.solver.specs.Steps.Vectors.{Placed}
 
 module _ (Q y : ℕ → ℕ) where
-  pub placed_none : (xs : List ℕ) (n : ℕ) → Holds n (λ _. 0) xs → Placed 0 Q y xs
+  pub placed_none : (xs : List ℕ) (n : ℕ) → IsVector n (λ _. 0) xs → Placed 0 Q y xs
   placed_none xs n H =
       record {
         at = λ distinct k h. absurd (omega arith);

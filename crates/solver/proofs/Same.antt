@@ -9,7 +9,7 @@ use Rattle.algebra.specs.Pivots.{Pivots, PivotsOf, row_coefficients, column_coef
 use Rattle.algebra.proofs.Deltas.{extend-last, extend-below}
 use Rattle.algebra.proofs.Sums.{Σ-congr}
 use Rattle.algebra.specs.Profiles.{pivot_rows}
-use Rattle.solver.specs.Pivots.{SamePivots}
+use Rattle.solver.specs.Steps.Pivots.{SamePivots}
 use Rattle.solver.specs.Runs.{pivot_columns}
 use Rattle.solver.proofs.Filling.{values_same}
 

@@ -3,7 +3,7 @@ use Rattle.std.proofs.Common.{◌≡◌, ◌≢◌, List, slice_index, ℕ, zero
 use Rattle.std.proofs.lemmas.Bool.{ne_eqb, eq-eqb}
 use Rattle.std.specs.Option.{MatchOption}
 use Rattle.field.specs.Operations.{first_from}
-use Rattle.solver.specs.Slices.{Holds}
+use Rattle.solver.specs.Slices.{IsVector}
 
 pub first_from-of_none : (test : ℕ → Bool) (n a : ℕ) → ((k : ℕ) → a ≤ k → k < a + n → test k ≡ false) → first_from test n a ≡ None
 unfolding first_from
@@ -41,7 +41,7 @@ module _ (f : ℕ → ℕ) (n : ℕ) where
         first_nonzero (Some i) (below, λ e. found.2 (reads i below ∙ ap Some e), λ k h. zero_read k (omega arith) (found.3 k (omega arith) h))
 
   -- where they stand in a slice
-  module _ (most : ℕ) (xs : List ℕ) (H : Holds most f xs) (few : n ≤ most) where
+  module _ (most : ℕ) (xs : List ℕ) (H : IsVector most f xs) (few : n ≤ most) where
     zero_held : (k : ℕ) → k < n → slice_index xs k ≡ 0 → f k ≡ 0
     zero_held k h e = sym (H.each k (omega arith)) ∙ e
 

@@ -12,8 +12,9 @@ use Rattle.algebra.specs.Vectors.{dot, mul_vec, vec_mul, unit_minus, extend}
 use Rattle.algebra.specs.Pivots.{Pivots, row_coefficients, column_coefficients, schur, grow, solution}
 use Rattle.algebra.proofs.Deltas.{extend-last, extend-below}
 use Rattle.algebra.proofs.Sums.{Σ-zero, Σ-suc, Σ-congr, Σ-mod}
-use Rattle.solver.specs.Slices.{Begins, Holds, Placed}
-use Rattle.solver.specs.Pivots.{pivots_in, PivotsFit, RowsWidened, LastRow, SamePivots}
+use Rattle.solver.specs.Slices.{IsVector}
+use Rattle.solver.specs.Steps.Vectors.{Begins, Placed}
+use Rattle.solver.specs.Steps.Pivots.{pivots_in, PivotsFit, RowsWidened, LastRow, SamePivots}
 use Rattle.solver.proofs.Products.{dot_skip}
 use Rattle.solver.proofs.Placing.{placed_place, placed_unit_minus}
 
@@ -29,7 +30,7 @@ module _ (F : Lawful) where
 
   -- B times the sums at the pivot rows, at the pivot columns
   pub solution_held : (b : ℕ → ℕ) (S : Pivots) (sums product xs : List ℕ) → Begins S.count (λ k. b (S.row k)) sums → Begins S.count (mul_vec F.ops S.count S.inverse (slice_index sums)) product →
-      Placed S.count S.column (slice_index product) xs → length xs ≡ 64 → Distinct S.count S.column → Holds 64 (solution F.ops b S) xs
+      Placed S.count S.column (slice_index product) xs → length xs ≡ 64 → Distinct S.count S.column → IsVector 64 (solution F.ops b S) xs
   solution_held b S sums product xs has is P long distinct =
       let y = mul_vec F.ops S.count S.inverse (λ l. b (S.row l)) in
       record {
@@ -41,9 +42,9 @@ module _ (F : Lawful) where
       }
 
   -- 1 at a row and the negatives of its coefficients at the pivot rows
-  pub multipliers_held : (S : Pivots) (i : ℕ) (z negatives xs : List ℕ) → S.count ≤ 64 → Holds 64 (λ k. F.ops.negative (slice_index z k)) negatives →
+  pub multipliers_held : (S : Pivots) (i : ℕ) (z negatives xs : List ℕ) → S.count ≤ 64 → IsVector 64 (λ k. F.ops.negative (slice_index z k)) negatives →
       Placed S.count S.row (slice_index negatives) xs → length xs ≡ 96 → i < 96 → Distinct S.count S.row → Outside S.count S.row i →
-      Holds 96 (unit_minus F.ops i S.count S.row (slice_index z)) (slice_set xs i 1)
+      IsVector 96 (unit_minus F.ops i S.count S.row (slice_index z)) (slice_set xs i 1)
   multipliers_held S i z negatives xs few N P long below distinct out =
       record {
         long = length-set xs i 1 ∙ long;
@@ -56,7 +57,7 @@ pub record RowsCombined (K : Operations) (s : ℕ) (v : ℕ → ℕ) (B : ℕ �
   pub each : Begins s (vec_mul K r v B) xs
 
 module _ (F : Lawful) (s : ℕ) (few : s ≤ 64) (v : ℕ → ℕ) (B : ℕ → ℕ → ℕ) where
-  pub rows_none : (xs : List ℕ) → Holds 64 (λ _. 0) xs → RowsCombined F.ops s v B 0 xs
+  pub rows_none : (xs : List ℕ) → IsVector 64 (λ _. 0) xs → RowsCombined F.ops s v B 0 xs
   rows_none xs H = record { long = H.long; each = λ l h. H.each l (omega arith) ∙ sym (Σ-zero F (λ k. F.ops.times (v k) (B k l))) }
 
   pub rows_next : (r w : ℕ) (row before after : List ℕ) → RowsCombined F.ops s v B r before → w ≡ v r → length row ≡ s → Begins s (B r) row →

@@ -1,36 +1,29 @@
 -- What every run of a settle keeps, in words of rows, minutes and answers. Assumes nothing.
-use Rattle.std.specs.Prelude.{◌≡◌, ◌≢◌, ℕ, suc, ◌+◌, ◌%◌, ◌<◌, ◌≤◌, ◌↔◌, ◌⊎◌, List, [], ◌∷◌, length, drop, ⊤, Some, Option, Result, MatchResult}
+use Rattle.std.specs.Prelude.{◌≡◌, ◌≢◌, ℕ, suc, ◌+◌, ◌%◌, ◌<◌, ◌≤◌, ◌↔◌, ◌⊎◌, List, [], ◌∷◌, length, drop, ⊤, Some, Ok, Result, nat_lt}
+use Rattle.std.specs.List.{All, Contains}
 use Rattle.field.specs.Operations.{Operations}
 use Rattle.field.specs.Sums.{Σ}
-use Rattle.frame.specs.declared.refusals.Refusal.{Refusal}
-use Rattle.frame.specs.declared.refusals.Refusal.TheVariants.{SpaceTooShort}
+use Rattle.frame.specs.Refusals.{RefusalCase}
+use Rattle.frame.specs.Orders.{refuse, when}
 use Rattle.rows.specs.Systems.{System}
 use Rattle.rows.specs.Values.{choice, entry, column_value, SatisfiesAll}
-use Rattle.algebra.specs.Places.{Outside}
+use Rattle.rows.specs.Columns.{DifferentColumns, Determine}
 use Rattle.algebra.specs.Profiles.{IndependentRows, rank}
 use Rattle.solver.specs.declared.findings.Findings.{Findings}
-use Rattle.solver.specs.declared.outcomes.Failure.{Failure}
 use Rattle.solver.specs.declared.outcomes.Outcome.{Outcome}
-use Rattle.solver.specs.declared.outcomes.Outcome.TheVariants.{Failed}
+use Rattle.solver.specs.declared.spaces.TheConstants.{WORK_WORDS}
 use Rattle.solver.specs.Pivots.{sum_at}
-use Rattle.solver.specs.Questions.{Asked, side, Tells, FalseAnswer}
-use Rattle.solver.specs.Outcomes.{side_case, outcome_case}
+use Rattle.solver.specs.Questions.{Asked, side, HandsCodes, TellsFault, FalseAnswer}
+use Rattle.solver.specs.Outcomes.{Case, side_case, solved_case, contradiction_case, outcome_case, IsSolved, IsContradiction, IsFailed}
+use Rattle.solver.specs.Scouts.{ScoutMeaning}
 use Rattle.solver.specs.Runs.{Exchange, Ran, Writes, whole_run}
 
--- how it ended, by the numbers of the cases
-abbrev pub IsSolved : Outcome → Type 0
-IsSolved o = (outcome_case o).number ≡ 1
-
-abbrev pub IsContradiction : Outcome → Type 0
-IsContradiction o = (outcome_case o).number ≡ 2
-
-abbrev pub IsFailed : Outcome → Type 0
-IsFailed o = (outcome_case o).number ≡ 3
-
 -- asked this, the newest first, a scout gave these answers, and came from one state to another
-abbrev pub Gave : {X : Type 0} → System → (X → System → Asked → Option ℕ) → (X → System → Asked → X) → X → List Exchange → X → Type 0
-Gave S answer after from [] to = to ≡ from
-Gave {X = X} S answer after from (e ∷ es) to = (before : X) × Gave S answer after from es before × (e.answer ≡ answer before S e.question) × (to ≡ after before S e.question)
+abbrev pub Gave : {X : Type 0} → System → ScoutMeaning X → X → List Exchange → X → Type 0
+Gave S M from [] to = to ≡ from
+Gave {X = X} S M from (e ∷ es) to =
+    (before : X) × Gave S M from es before
+    × (e.answer ≡ M.answer before S e.question) × (to ≡ M.after before S e.question)
 
 -- an answer among them is false
 abbrev pub SomeFalse : Operations → System → List Exchange → Type 0
@@ -42,54 +35,97 @@ abbrev pub Alternate : List Exchange → Type 0
 Alternate [] = ⊤
 Alternate (e ∷ es) = ((side_case (side e.question)).number ≡ suc (length es % 2)) × Alternate es
 
--- a failure tells of the last question: its number from 1, its side, and what is false in its answer
-abbrev pub FailureTells : Operations → System → List Exchange → Failure → Type 0
-FailureTells K S [] f = ⊥
-FailureTells K S (e ∷ es) f = (f.question ≡ suc (length es)) × (f.side ≡ side e.question) × Tells K S e.question e.answer f.lie
+-- a failure tells of the last question: its number from 1, its side, and what is false in its
+-- answer
+abbrev pub FailureTells : Operations → System → List Exchange → List ℕ → Type 0
+FailureTells K S [] values = ⊥
+FailureTells K S (e ∷ es) values =
+    (fault : Case) × TellsFault K S e.question e.answer fault
+    × (values ≡
+    suc (length es) ∷ (side_case (side e.question)).number ∷ fault.number ∷ fault.values)
 
--- u blames rows whose combination is impossible: times u the weights add up to 0 at every minute, and the sums do not
+-- u blames rows whose combination is impossible: times u the weights add up to 0 at every minute,
+-- and the sums do not
 abbrev pub Impossible : Operations → System → (ℕ → ℕ) → Type 0
-Impossible K S u = ((c : ℕ) → c < S.width → column_value K S u c ≡ 0) × (Σ K (length S.rows) (λ i. K.times (u i) (sum_at S i)) ≢ 0)
+Impossible K S u =
+    ((c : ℕ) → c < S.width → column_value K S u c ≡ 0)
+    × (Σ K (length S.rows) (λ i. K.times (u i) (sum_at S i)) ≢ 0)
 
--- the laws of a run that has ended, where x and u are what stands in the record after it
-pub record RunLaws {X : Type 0} (K : Operations) (S : System) (answer : X → System → Asked → Option ℕ) (after : X → System → Asked → X) (scout : X) (r : Ran X) (x u : ℕ → ℕ) : Type 0 where
-  -- solved: the minutes are codes, 0 outside the pivot columns, and satisfy every row; with as many pivots as minutes no others do
-  pub solved : IsSolved r.outcome → SatisfiesAll K S x
-  pub codes : IsSolved r.outcome → (c : ℕ) → c < S.width → x c < K.q
-  pub elsewhere : IsSolved r.outcome → (c : ℕ) → c < S.width → Outside (length r.columns) (choice r.columns) c → x c ≡ 0
-  pub only : IsSolved r.outcome → length r.rows ≡ S.width → (y : ℕ → ℕ) → SatisfiesAll K S y → (c : ℕ) → c < S.width → y c % K.q ≡ x c
-  -- contradiction: u's numbers are codes, and the rows that it blames are impossible together, so no minutes satisfy all rows
-  pub blamed : IsContradiction r.outcome → Impossible K S u
-  pub blame_codes : IsContradiction r.outcome → (i : ℕ) → i < length S.rows → u i < K.q
-  pub refuted : IsContradiction r.outcome → (y : ℕ → ℕ) → SatisfiesAll K S y → ⊥
-  -- failed: exactly where one of the answers, which are the scout's, was false; so never with a scout that does not lie
-  pub gave : Gave S answer after scout r.asked r.scout
+-- a run that is solved with the minutes x
+pub record SolvedLaws {X : Type 0} (K : Operations) (S : System)
+    (r : Ran X) (x : ℕ → ℕ) : Type 0 where
+  -- the minutes satisfy every row; they are codes, and 0 outside the pivot columns
+  pub satisfied : SatisfiesAll K S x
+  pub codes : (c : ℕ) → c < S.width → x c < K.q
+  pub elsewhere : (c : ℕ) → c < S.width → ¬ Contains r.columns c → x c ≡ 0
+  -- no others satisfy every row and agree with them outside the pivot columns; none do where there
+  -- are as many pivots as minutes
+  pub determined : Determine K S r.columns x
+  pub only : length r.rows ≡ S.width →
+      (y : ℕ → ℕ) → SatisfiesAll K S y → (c : ℕ) → c < S.width → y c % K.q ≡ x c
+  -- it tells its pivots and its questions, one more than two for each pivot
+  pub told : r.outcome ≡ solved_case (length r.rows) (length r.asked)
+  pub questions : length r.asked ≡ length r.rows + length r.rows + 1
+
+-- a run that ends in a contradiction with the blame u
+pub record ContradictionLaws {X : Type 0} (K : Operations) (S : System)
+    (r : Ran X) (u : ℕ → ℕ) : Type 0 where
+  -- the rows blamed are impossible together, so no minutes satisfy all rows; the blame is codes
+  pub blamed : Impossible K S u
+  pub refuted : (y : ℕ → ℕ) → ¬ SatisfiesAll K S y
+  pub codes : (i : ℕ) → i < length S.rows → u i < K.q
+  -- it tells its pivots and its questions, two more than two for each pivot
+  pub told : r.outcome ≡ contradiction_case (length r.rows) (length r.asked)
+  pub questions : length r.asked ≡ length r.rows + length r.rows + 2
+
+-- the questions and answers of a run
+pub record AnswerLaws {X : Type 0} (K : Operations) (S : System)
+    (M : ScoutMeaning X) (from : X) (r : Ran X) : Type 0 where
+  -- the answers are the scout's
+  pub gave : Gave S M from r.asked r.scout
+  -- every question hands over codes; they are of rows and of columns in turn, one or two more than
+  -- two for each pivot
+  pub hand_codes : All (λ e. HandsCodes K S e.question) r.asked
+  pub turns : Alternate r.asked
+  pub counts : (length r.asked ≡ length r.rows + length r.rows + 1)
+      ⊎ (length r.asked ≡ length r.rows + length r.rows + 2)
+  -- the run fails exactly where one of the answers was false, which was the last, and tells what is
+  -- false in it
   pub failed : IsFailed r.outcome ↔ SomeFalse K S r.asked
-  pub tells : (f : Failure) → r.outcome ≡ Failed f → FailureTells K S r.asked f
-  pub before_true : SomeFalse K S (drop 1 r.asked) → ⊥
-  pub honest : ((state : X) (q : Asked) → FalseAnswer K S q (answer state S q) → ⊥) → IsFailed r.outcome → ⊥
+  pub before_true : ¬ SomeFalse K S (drop 1 r.asked)
+  pub tells : IsFailed r.outcome → FailureTells K S r.asked r.outcome.values
+  -- so it never fails with a scout whose answers are all true
+  pub never_fails : ((state : X) (q : Asked) → ¬ FalseAnswer K S q (M.answer state S q)) →
+      ¬ IsFailed r.outcome
+
+-- the pivots of a run
+pub record FoundPivots {X : Type 0} (K : Operations) (S : System) (r : Ran X) : Type 0 where
   -- the pivot rows are independent, and so no more than the rank
   pub independent : IndependentRows K (length S.rows) S.width (entry K S) r.rows
   pub at_most_rank : length r.rows ≤ rank K (length S.rows) S.width (entry K S)
-  -- the questions are of rows and of columns in turn, two for each pivot, and one or two more; the numbers told are those of the
-  -- pivots and of the questions
-  pub turns : Alternate r.asked
-  pub counts : (length r.asked ≡ length r.rows + length r.rows + 1) ⊎ (length r.asked ≡ length r.rows + length r.rows + 2)
-  pub solved_counts : IsSolved r.outcome → ((outcome_case r.outcome).values ≡ length r.rows ∷ length r.asked ∷ []) × (length r.asked ≡ length r.rows + length r.rows + 1)
-  pub contradiction_counts : IsContradiction r.outcome → ((outcome_case r.outcome).values ≡ length r.rows ∷ length r.asked ∷ []) × (length r.asked ≡ length r.rows + length r.rows + 2)
+  -- the pivot columns are different minutes of the hour, none of them 0 in every row, and as many
+  -- as the pivot rows
+  pub columns : DifferentColumns K S r.columns
+  pub as_many : length r.columns ≡ length r.rows
+
+-- the laws of a run that has ended, where x and u are what stands in the record after it
+pub record RunLaws {X : Type 0} (K : Operations) (S : System)
+    (M : ScoutMeaning X) (from : X) (r : Ran X) (x u : ℕ → ℕ) : Type 0 where
+  pub solved : IsSolved r.outcome → SolvedLaws K S r x
+  pub contradiction : IsContradiction r.outcome → ContradictionLaws K S r u
+  pub answers : AnswerLaws K S M from r
+  pub pivots : FoundPivots K S r
 
 -- a run: it is the one defined, writes what it says, and keeps the laws
-pub record Settles {X : Type 0} (K : Operations) (S : System) (answer : X → System → Asked → Option ℕ) (after : X → System → Asked → X) (from to : X) (f f' : Findings) (o : Outcome) : Type 0 where
+pub record Settles {X : Type 0} (K : Operations) (S : System)
+    (M : ScoutMeaning X) (from to : X) (f f' : Findings) (o : Outcome) : Type 0 where
   pub ran : Ran X
-  pub defined : whole_run K S answer after from ≡ Some ran
-  pub outcome : o ≡ ran.outcome
+  pub defined : whole_run K S M from ≡ Some ran
+  pub outcome : outcome_case o ≡ ran.outcome
   pub scout : to ≡ ran.scout
-  pub writes : Writes o ran.asked f f'
-  pub laws : RunLaws K S answer after from ran (choice f'.minutes) (choice f'.blame)
+  pub writes : Writes ran.outcome ran.asked f f'
+  pub laws : RunLaws K S M from ran (choice f'.minutes) (choice f'.blame)
 
--- a settle: it runs where there is a work space, and else refuses and changes nothing
-abbrev pub SettlesIn : {X : Type 0} → Operations → System → (X → System → Asked → Option ℕ) → (X → System → Asked → X) → (from to : X) (work work' : List ℕ) (f f' : Findings) → Result Outcome Refusal → Type 0
-SettlesIn K S answer after from to work work' f f' r =
-    MatchResult r
-    (λ o. (8192 ≤ length work) × Settles K S answer after from to f f' o)
-    (λ e. (e ≡ SpaceTooShort) × (length work < 8192) × (to ≡ from) × (work' ≡ work) × (f' ≡ f))
+-- a settle is refused where the work space has under 8192 words
+abbrev pub settle_answer : ℕ → Result (Unit {0}) RefusalCase
+settle_answer words = refuse 6 (when (nat_lt words WORK_WORDS)) (Ok tt)

@@ -1,9 +1,9 @@
 pub mod Slices
 pub mod Questions
 pub mod Outcomes
+pub mod Scouts
 pub mod Pivots
-pub mod Spaces
 pub mod Runs
-pub mod Turns
 pub mod Laws
 pub mod Profiling
+pub mod Steps

@@ -7,11 +7,13 @@ use Rattle.solver.specs.declared.questions.Question.{Question}
 use Rattle.solver.specs.declared.questions.Question.TheVariants.{Row, Column}
 use Rattle.solver.specs.declared.questions.Side.{Side}
 use Rattle.solver.specs.declared.questions.Side.TheVariants as sides
-use Rattle.solver.specs.declared.lies.Lie.{Lie}
-use Rattle.solver.specs.declared.lies.Lie.TheVariants.{Missed, Zero, Outside}
+use Rattle.solver.specs.declared.faults.Fault.{Fault}
+use Rattle.solver.specs.declared.faults.Fault.TheVariants.{Missed, Zero, NoPlace}
+use Rattle.solver.specs.Outcomes.{Case, fault_case}
+use Rattle.solver.specs.Slices.{Codes}
 
--- what is asked: the row question for x is about the places of b − Ax, a row each, and the column question for u about
--- those of uA, a minute each
+-- what is asked: the row question for x is about the places of b − Ax, a row each, and the column
+-- question for u about those of uA, a minute each
 pub data Asked : Type 0 where
   about_rows : List ℕ → Asked
   about_columns : List ℕ → Asked
@@ -23,6 +25,17 @@ asked (Column u) = about_columns u.now
 abbrev pub side : Asked → Side
 side (about_rows x) = sides.Row
 side (about_columns u) = sides.Column
+
+-- the codes that a question hands over
+abbrev pub question_codes : Asked → List ℕ
+question_codes (about_rows x) = x
+question_codes (about_columns u) = u
+
+-- a question hands over codes: one for each minute where it is about rows, and one for each row
+-- where it is about columns
+abbrev pub HandsCodes : Operations → System → Asked → Type 0
+HandsCodes K S (about_rows x) = (length x ≡ S.width) × Codes K.q x
+HandsCodes K S (about_columns u) = (length u ≡ length S.rows) × Codes K.q u
 
 abbrev pub place_count : System → Asked → ℕ
 place_count S (about_rows x) = length S.rows
@@ -41,7 +54,8 @@ value_of K S q i = cond (nat_lt i (place_count S q)) (Some (value_at K S q i)) N
 abbrev pub first_place : Operations → System → Asked → Option ℕ
 first_place K S q = first_from (λ i. not (value_at K S q i == 0)) (place_count S q) 0
 
--- an answer is false when its place does not exist or has value 0, or when it is none though some value is not 0
+-- an answer is false when its place does not exist or has value 0, or when it is none though some
+-- value is not 0
 abbrev pub FalseAnswer : Operations → System → Asked → Option ℕ → Type 0
 FalseAnswer K S q (Some i) = (place_count S q ≤ i) ⊎ (value_at K S q i ≡ 0)
 FalseAnswer K S q None = (i : ℕ) × (i < place_count S q) × (value_at K S q i ≢ 0)
@@ -51,27 +65,35 @@ abbrev pub TrueAnswer : Operations → System → Asked → Option ℕ → Type 
 TrueAnswer K S q (Some i) = (i < place_count S q) × (value_at K S q i ≢ 0)
 TrueAnswer K S q None = (i : ℕ) → i < place_count S q → value_at K S q i ≡ 0
 
--- what is false in an answer: none was said though this place, the first such, is not 0; its value is 0; it does not exist
-abbrev pub Tells : Operations → System → Asked → Option ℕ → Lie → Type 0
-Tells K S q a (Missed i) = (a ≡ None) × (first_place K S q ≡ Some i)
-Tells K S q a (Zero i) = (a ≡ Some i) × (i < place_count S q) × (value_at K S q i ≡ 0)
-Tells K S q a (Outside i) = (a ≡ Some i) × (place_count S q ≤ i)
+-- what is false in an answer: none was given though this place, the first such, is not 0; its value
+-- is 0; it does not exist
+abbrev pub HasFault : Operations → System → Asked → Option ℕ → Fault → Type 0
+HasFault K S q a (Missed i) = (a ≡ None) × (first_place K S q ≡ Some i)
+HasFault K S q a (Zero i) = (a ≡ Some i) × (i < place_count S q) × (value_at K S q i ≡ 0)
+HasFault K S q a (NoPlace i) = (a ≡ Some i) × (place_count S q ≤ i)
 
--- none as an answer tested, by the first place whose value is not 0
-abbrev pub none_tested : Option ℕ → Result (Option ℕ) Lie
-none_tested None = Ok None
-none_tested (Some i) = Err (Missed i)
+-- none as an answer verified, by the first place whose value is not 0
+abbrev pub none_verified : Option ℕ → Result (Option ℕ) Case
+none_verified None = Ok None
+none_verified (Some i) = Err (fault_case (Missed i))
 
--- a place as an answer tested, by the value there
-abbrev pub place_tested : ℕ → Option ℕ → Result (Option ℕ) Lie
-place_tested i None = Err (Outside i)
-place_tested i (Some v) = cond (v == 0) (Err (Zero i)) (Ok (Some i))
+-- a place as an answer verified, by the value there
+abbrev pub place_verified : ℕ → Option ℕ → Result (Option ℕ) Case
+place_verified i None = Err (fault_case (NoPlace i))
+place_verified i (Some v) = cond (v == 0) (Err (fault_case (Zero i))) (Ok (Some i))
 
--- an answer tested: itself where it is true, else what is false in it
-abbrev pub tested : Operations → System → Asked → Option ℕ → Result (Option ℕ) Lie
-tested K S q None = none_tested (first_place K S q)
-tested K S q (Some i) = place_tested i (value_of K S q i)
+-- an answer verified: itself where it is true, else its fault
+abbrev pub verified : Operations → System → Asked → Option ℕ → Result (Option ℕ) Case
+verified K S q None = none_verified (first_place K S q)
+verified K S q (Some i) = place_verified i (value_of K S q i)
 
--- the test lets through just the true answers, as they are, and tells what is false in the others
-abbrev pub Judges : Operations → System → Asked → Option ℕ → Result (Option ℕ) Lie → Type 0
-Judges K S q a r = MatchResult r (λ b. (b ≡ a) × TrueAnswer K S q a) (λ l. Tells K S q a l × FalseAnswer K S q a)
+-- a case tells what is false in an answer
+abbrev pub TellsFault : Operations → System → Asked → Option ℕ → Case → Type 0
+TellsFault K S q a c = (fault : Fault) × HasFault K S q a fault × (c ≡ fault_case fault)
+
+-- to verify lets through just the true answers, as they are, and tells what is false in the others
+abbrev pub Verifies : Operations → System → Asked → Option ℕ → Result (Option ℕ) Case → Type 0
+Verifies K S q a r =
+    MatchResult r
+    (λ b. (b ≡ a) × TrueAnswer K S q a)
+    (λ c. FalseAnswer K S q a × TellsFault K S q a c)

@@ -7,20 +7,19 @@ use Rattle.rows.specs.Systems.{System}
 use Rattle.rows.specs.Values.{choice, entry}
 use Rattle.algebra.specs.Pivots.{Pivots, no_pivots, solution, multipliers, grow}
 use Rattle.algebra.specs.Profiles.{pivot_rows}
-use Rattle.solver.specs.declared.lies.Lie.{Lie}
 use Rattle.solver.specs.declared.findings.Findings.{Findings}
-use Rattle.solver.specs.declared.outcomes.Outcome.{Outcome}
-use Rattle.solver.specs.declared.outcomes.Outcome.TheVariants.{Solved, Contradiction, Failed}
+use Rattle.solver.specs.Outcomes.{Case, solved_case, contradiction_case, failed_case, IsSolved, IsContradiction, IsFailed}
 use Rattle.solver.specs.Pivots.{sum_at}
-use Rattle.solver.specs.Questions.{Asked, about_rows, about_columns, side, tested}
+use Rattle.solver.specs.Questions.{Asked, about_rows, about_columns, question_codes, side, verified}
+use Rattle.solver.specs.Scouts.{ScoutMeaning}
 
 -- a question that was put, and the answer to it
 pub record Exchange : Type 0 where
   pub question : Asked
   pub answer : Option ℕ
 
--- a run between two questions: its pivots, the row whose column question is next, if it is not a row question, and what was
--- asked, the newest first
+-- a run between two questions: its pivots, the row whose column question is next, if it is not a
+-- row question, and what was asked, the newest first
 pub record State : Type 0 where
   pub pivots : Pivots
   pub row : Option ℕ
@@ -53,52 +52,66 @@ next_question K S st = question_of K S st.pivots st.row
 abbrev pub exchanged : Operations → System → State → Option ℕ → List Exchange
 exchanged K S st a = record { question = next_question K S st; answer = a } ∷ st.asked
 
--- after a true answer that names a place: a row's column question comes next, and a column makes a pivot more
+-- after a true answer that names a place: a row's column question comes next, and a column makes a
+-- pivot more
 abbrev pub named : Operations → System → Pivots → Option ℕ → List Exchange → ℕ → State
 named K S P None asked i = record { pivots = P; row = Some i; asked = asked }
-named K S P (Some i) asked j = record { pivots = grow K (entry K S) P i j; row = None; asked = asked }
+named K S P (Some i) asked j =
+    record { pivots = grow K (entry K S) P i j; row = None; asked = asked }
 
 -- after a true answer none
-abbrev pub ending : Pivots → Option ℕ → List Exchange → Outcome
-ending P None asked = Solved (record { pivots = P.count; questions = length asked })
-ending P (Some i) asked = Contradiction (record { pivots = P.count; questions = length asked })
+abbrev pub ending : Pivots → Option ℕ → List Exchange → Case
+ending P None asked = solved_case P.count (length asked)
+ending P (Some i) asked = contradiction_case P.count (length asked)
 
 -- how it goes on: another question, or the end
-pub data Next : Type 0 where
-  question : State → Next
-  end : Outcome → Next
+pub data Progress : Type 0 where
+  question : State → Progress
+  end : Case → Progress
 
-abbrev pub judged : Operations → System → Pivots → Option ℕ → Asked → List Exchange → Result (Option ℕ) Lie → Next
-judged K S P row q asked (Err lie) = end (Failed (record { question = length asked; side = side q; lie = lie }))
-judged K S P row q asked (Ok None) = end (ending P row asked)
-judged K S P row q asked (Ok (Some i)) = question (named K S P row asked i)
+-- by the last answer, verified; the fault of a false one ends the run
+abbrev pub continued : Operations → System → Pivots → Option ℕ → Asked → List Exchange →
+    Result (Option ℕ) Case → Progress
+continued K S P row q asked (Err fault) = end (failed_case (length asked) (side q) fault)
+continued K S P row q asked (Ok None) = end (ending P row asked)
+continued K S P row q asked (Ok (Some i)) = question (named K S P row asked i)
 
 -- one question with its answer
-abbrev pub step : Operations → System → State → Option ℕ → Next
-step K S st a = judged K S st.pivots st.row (next_question K S st) (exchanged K S st a) (tested K S (next_question K S st) a)
+abbrev pub step : Operations → System → State → Option ℕ → Progress
+step K S st a =
+    let q = next_question K S st in
+    continued K S st.pivots st.row q (exchanged K S st a) (verified K S q a)
 
 -- the pivot columns as a list
 abbrev pub pivot_columns : Pivots → List ℕ
 pivot_columns P = values_of P.count P.column
 
--- a run that has ended: how, its pivot rows and pivot columns in the order found, what was asked, the newest first, and the scout's
--- state
+-- a run that has ended: how, its pivot rows and pivot columns in the order found, what was asked,
+-- the newest first, and the scout's state
 pub record Ran (X : Type 0) : Type 0 where
-  pub outcome : Outcome
+  pub outcome : Case
   pub rows : List ℕ
   pub columns : List ℕ
   pub asked : List Exchange
   pub scout : X
 
--- a run with questions left, which a scout answers: `answer` and `after` are what its states mean
-unfoldable pub run : {X : Type 0} → Operations → System → (X → System → Asked → Option ℕ) → (X → System → Asked → X) → ℕ → State → X → Option (Ran X)
-run K S answer after zero st scout = None
-run K S answer after (suc left) st scout =
+-- a run with so many questions left, which a scout answers
+unfoldable pub run : {X : Type 0} → Operations → System → ScoutMeaning X → ℕ → State → X →
+    Option (Ran X)
+run K S M zero st scout = None
+run K S M (suc left) st scout =
     let q = next_question K S st in
-    let a = answer scout S q in
+    let a = M.answer scout S q in
     elim (step K S st a) [
-      | question later ↦ run K S answer after left later (after scout S q)
-      | end outcome ↦ Some (record { outcome = outcome; rows = pivot_rows st.pivots; columns = pivot_columns st.pivots; asked = exchanged K S st a; scout = after scout S q })
+      | question later ↦ run K S M left later (M.after scout S q)
+      | end outcome ↦
+          Some (record {
+            outcome = outcome;
+            rows = pivot_rows st.pivots;
+            columns = pivot_columns st.pivots;
+            asked = exchanged K S st a;
+            scout = M.after scout S q;
+          })
     ]
 
 -- no run puts more questions
@@ -106,20 +119,21 @@ abbrev pub most_questions : System → ℕ
 most_questions S = S.width + S.width + 2
 
 -- the whole run
-abbrev pub whole_run : {X : Type 0} → Operations → System → (X → System → Asked → Option ℕ) → (X → System → Asked → X) → X → Option (Ran X)
-whole_run K S answer after scout = run K S answer after (most_questions S) start scout
+abbrev pub whole_run : {X : Type 0} → Operations → System → ScoutMeaning X → X → Option (Ran X)
+whole_run K S M scout = run K S M (most_questions S) start scout
 
--- the codes that a question hands over
-abbrev pub codes_in : Asked → List ℕ
-codes_in (about_rows x) = x
-codes_in (about_columns u) = u
-
+-- the codes of the last question
 abbrev pub last_codes : List Exchange → List ℕ
 last_codes [] = []
-last_codes (e ∷ es) = codes_in e.question
+last_codes (e ∷ es) = question_codes e.question
+
+-- the codes of the last question stand at the head of a list, whose rest is as it was
+abbrev pub WritesLast : List Exchange → (list list' : List ℕ) → Type 0
+WritesLast asked list list' =
+    Filled (length (last_codes asked)) (choice (last_codes asked)) list list'
 
 -- what a run writes: x when it is solved, u on a contradiction, and nothing else
-abbrev pub Writes : Outcome → List Exchange → Findings → Findings → Type 0
-Writes (Solved c) asked f f' = Filled (length (last_codes asked)) (choice (last_codes asked)) f.minutes f'.minutes × (f'.blame ≡ f.blame)
-Writes (Contradiction c) asked f f' = (f'.minutes ≡ f.minutes) × Filled (length (last_codes asked)) (choice (last_codes asked)) f.blame f'.blame
-Writes (Failed e) asked f f' = f' ≡ f
+pub record Writes (outcome : Case) (asked : List Exchange) (f f' : Findings) : Type 0 where
+  pub minutes : IsSolved outcome → WritesLast asked f.minutes f'.minutes × (f'.blame ≡ f.blame)
+  pub blame : IsContradiction outcome → (f'.minutes ≡ f.minutes) × WritesLast asked f.blame f'.blame
+  pub nothing : IsFailed outcome → f' ≡ f

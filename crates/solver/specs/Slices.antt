@@ -1,20 +1,10 @@
 -- What slices hold as vectors. Assumes nothing.
 use Rattle.std.specs.Prelude.{◌≡◌, ℕ, ◌<◌, List, length, slice_index}
-use Rattle.algebra.specs.Places.{Distinct, Outside}
 
--- a slice of n words holds f's values
-pub record Holds (n : ℕ) (f : ℕ → ℕ) (xs : List ℕ) : Type 0 where
+-- a slice of n words that holds f's values
+pub record IsVector (n : ℕ) (f : ℕ → ℕ) (xs : List ℕ) : Type 0 where
   pub long : length xs ≡ n
   pub each : (k : ℕ) → k < n → slice_index xs k ≡ f k
-
--- the first s words are f's values
-abbrev pub Begins : ℕ → (ℕ → ℕ) → List ℕ → Type 0
-Begins s f xs = (k : ℕ) → k < s → slice_index xs k ≡ f k
-
--- it has y 0, .. y (s − 1) at the places Q 0, .. Q (s − 1), of which no two are equal, and 0 at the others
-pub record Placed (s : ℕ) (Q y : ℕ → ℕ) (xs : List ℕ) : Type 0 where
-  pub at : Distinct s Q → (k : ℕ) → k < s → slice_index xs (Q k) ≡ y k
-  pub elsewhere : (j : ℕ) → Outside s Q j → slice_index xs j ≡ 0
 
 -- its words are below q
 abbrev pub Codes : ℕ → List ℕ → Type 0

@@ -1,8 +1,8 @@
 //! The settle and the row rank profile over any rows, for any field; a settle with any scout.
 #![tactic(auto)]
 
+pub mod faults;
 pub mod findings;
-pub mod lies;
 pub mod outcomes;
 mod pivots;
 pub mod profiles;

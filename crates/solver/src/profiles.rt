@@ -1,11 +1,13 @@
 //! The row rank profile of rows.
-ghost use Rattle.std.specs.Prelude.{◌<◌, length};
+ghost use Rattle.std.specs.Prelude.{◌≡◌, ◌<◌, length, IfOk, OnErr};
+ghost use Rattle.frame.specs.Refusals.{numbered_as};
 ghost use Rattle.rows.specs.Values.{entry};
 ghost use Rattle.algebra.specs.Places.{Outside};
 ghost use Rattle.algebra.specs.Profiles.{with_row};
-ghost use Rattle.solver.specs.Pivots.{PivotsOfRows, SamePivots};
-ghost use Rattle.solver.specs.Spaces.{pivots_of};
-ghost use Rattle.solver.specs.Profiling.{ProfilesIn};
+ghost use Rattle.solver.specs.Pivots.{PivotsOfRows};
+ghost use Rattle.solver.specs.Profiling.{profile_answer, Profiles};
+ghost use Rattle.solver.specs.Steps.Pivots.{SamePivots};
+ghost use Rattle.solver.specs.Steps.Spaces.{pivots_of};
 
 use crate::pivots::PivotSpace;
 use crate::questions::Question;
@@ -15,11 +17,14 @@ use frame::refusals::Refusal;
 use rows::reading::Rows;
 use rows::sizes::MOST_ROWS;
 
-// A row looked at: a pivot more where it is no combination of the pivot rows.
-fn look_at<F: Field, R: Rows>(rows: &R, pivots: &mut PivotSpace<'_>, row: usize)
-    requires pivots { PivotsOfRows F.Field.ops (R.Rows.system rows.now) (pivots_of pivots.old) }
-    requires row { (row < length (R.Rows.system rows.now).rows) × Outside pivots.old.count (pivots_of pivots.old).row row }
-    ensures { SamePivots (pivots_of pivots.new) (with_row F.Field.ops (R.Rows.system rows.now).width (entry F.Field.ops (R.Rows.system rows.now)) (pivots_of pivots.old) row) }
+// One row of the elimination: a pivot more where the row is no combination of the pivot rows.
+fn eliminate_row<F: Field, R: Rows>(rows: &R, pivots: &mut PivotSpace<'_>, row: usize)
+    requires pivots { PivotsOfRows F.ops (R.system rows.now) (pivots_of pivots.old) }
+    requires there { row < length (R.system rows.now).rows }
+    requires outside { Outside pivots.old.count (pivots_of pivots.old).row row }
+    ensures { let S = R.system rows.now in
+        SamePivots (pivots_of pivots.new)
+        (with_row F.ops S.width (entry F.ops S) (pivots_of pivots.old) row) }
 {
     let coefficients = pivots.row_coefficients::<F, R>(rows, row);
     let u = pivots.multipliers::<F>(row, &coefficients);
@@ -29,22 +34,26 @@ fn look_at<F: Field, R: Rows>(rows: &R, pivots: &mut PivotSpace<'_>, row: usize)
     }
 }
 
-// Writes the row rank profile, the numbers of the rows that are no combination of those before them, rising, to the head
-// of a list, and returns how many they are. Refuses a work space under 8192 words or a list under 96 (6), and then changes
-// nothing.
+/// Writes the row rank profile, the numbers of the rows that are no combination of those before
+/// them, rising, to the head of a list, and returns how many they are. Refuses a work space under
+/// 8192 words or a list under 96 (6), and then changes nothing. What an accepted call leaves in the
+/// work space is left free.
 pub fn profile<F: Field, R: Rows>(
     rows: &R,
     work: &mut [u16],
     list: &mut [u16],
 ) -> Result<usize, Refusal>
-    ensures { ProfilesIn F.Field.ops (R.Rows.system rows.now) work.old work.new list.old list.new result }
+    ensures answer { numbered_as (λ _. tt) result ≡ profile_answer (length work.old) (length list.old) }
+    ensures profiles { IfOk result (Profiles F.ops (R.system rows.now) list.old list.new) }
+    ensures work { OnErr result (work.new ≡ work.old) }
+    ensures list { OnErr result (list.new ≡ list.old) }
 {
     if work.len() < WORK_WORDS || list.len() < MOST_ROWS {
         return Err(Refusal::SpaceTooShort);
     }
     let mut pivots = PivotSpace::new(work);
     for row in 0..rows.row_count() {
-        look_at::<F, R>(rows, &mut pivots, row);
+        eliminate_row::<F, R>(rows, &mut pivots, row);
     }
     pivots.write_rows(list);
     Ok(pivots.count())

@@ -1,19 +1,22 @@
 //! The run of a settle.
-ghost use Rattle.std.specs.Prelude.{◌≡◌, ◌≢◌, ℕ, ◌+◌, ◌<◌, List, length, Some, None, MatchResult, ⊤};
+ghost use Rattle.std.specs.Prelude.{◌≡◌, ◌≢◌, ℕ, ◌+◌, ◌<◌, List, Option, length, Some, None, IfOk, OnErr};
+ghost use Rattle.frame.specs.Refusals.{numbered_as};
 ghost use Rattle.rows.specs.Values.{entry};
 ghost use Rattle.algebra.specs.Places.{Outside};
-ghost use Rattle.algebra.specs.Pivots.{schur, row_coefficients};
-ghost use Rattle.solver.specs.Slices.{Begins};
+ghost use Rattle.algebra.specs.Pivots.{Pivots, schur, row_coefficients};
 ghost use Rattle.solver.specs.Pivots.{PivotsOfRows};
-ghost use Rattle.solver.specs.Spaces.{pivots_of};
-ghost use Rattle.solver.specs.Runs.{Exchange};
-ghost use Rattle.solver.specs.Questions.{asked, tested, TrueAnswer, first_place};
-ghost use Rattle.solver.specs.Turns.{state, failed_or, Put, Turned, Grown};
+ghost use Rattle.solver.specs.Questions.{asked, TrueAnswer};
+ghost use Rattle.solver.specs.Outcomes.{outcome_case, IsFailed};
+ghost use Rattle.solver.specs.Scouts.{scan_meaning};
+ghost use Rattle.solver.specs.Runs.{Exchange, question_of};
+ghost use Rattle.solver.specs.Laws.{Settles, settle_answer};
+ghost use Rattle.solver.specs.Steps.Vectors.{Begins};
+ghost use Rattle.solver.specs.Steps.Spaces.{pivots_of};
+ghost use Rattle.solver.specs.Steps.Turns.{state, ended, Continues, Put, Turned, Grown};
 ghost use Rattle.solver.specs.declared.scouts.Scan.{Scan};
-ghost use Rattle.solver.specs.Laws.{IsFailed, Settles, SettlesIn};
 
+use crate::faults::verify;
 use crate::findings::Findings;
-use crate::lies::judge;
 use crate::outcomes::{Count, Failure, Outcome};
 use crate::pivots::PivotSpace;
 use crate::questions::Question;
@@ -24,24 +27,27 @@ use frame::refusals::Refusal;
 use rows::reading::Rows;
 use rows::sizes::MOST_MINUTES;
 
-// Puts a question, which has this number: the scout's answer, or how the run ends where that is false.
+// Puts a question, which has this number: the scout's answer, or how the run ends where that is
+// false. Wherever the run stands, if this is its next question, so it goes on.
 fn put<F: Field, R: Rows, S: Scout<F>>(
     rows: &R,
     scout: &mut S,
     number: usize,
     question: Question<'_>,
 ) -> Result<Option<usize>, Outcome>
-    ensures answer { result ≡ failed_or number (asked question.entry) (tested F.Field.ops (R.Rows.system rows.now) (asked question.entry) (S.Scout.answer scout.old (R.Rows.system rows.now) (asked question.entry))) }
-    ensures truth { MatchResult result (TrueAnswer F.Field.ops (R.Rows.system rows.now) (asked question.entry)) (λ o. ⊤) }
-    ensures scout { scout.new ≡ S.Scout.after scout.old (R.Rows.system rows.now) (asked question.entry) }
+    ensures continues { let T = R.system rows.now in
+        (P : Pivots) (row : Option ℕ) (before : List Exchange) →
+        asked question.entry ≡ question_of F.ops T P row → number ≡ length before + 1 →
+        Continues F.ops T S.meaning (state P row before) scout.old scout.new (ended result) }
+    ensures truth { IfOk result (TrueAnswer F.ops (R.system rows.now) (asked question.entry)) }
 {
     let answer = scout.ask(rows, question);
-    match judge::<F, R>(rows, question, answer) {
+    match verify::<F, R>(rows, question, answer) {
         Ok(answer) => Ok(answer),
-        Err(lie) => Err(Outcome::Failed(Failure {
+        Err(fault) => Err(Outcome::Failed(Failure {
             question: number,
             side: question.side(),
-            lie,
+            fault,
         })),
     }
 }
@@ -53,9 +59,13 @@ fn ask_rows<F: Field, R: Rows, S: Scout<F>>(
     pivots: &PivotSpace<'_>,
     findings: &mut Findings,
 ) -> Result<usize, Outcome>
-    requires { PivotsOfRows F.Field.ops (R.Rows.system rows.now) (pivots_of pivots.now) }
-    ensures put { (asked : List Exchange) → length asked ≡ pivots.now.count + pivots.now.count → Put F.Field.ops (R.Rows.system rows.now) S.Scout.answer S.Scout.after (state (pivots_of pivots.now) None asked) scout.old scout.new findings.old findings.new result }
-    ensures place { MatchResult result (λ i. (i < length (R.Rows.system rows.now).rows) × Outside pivots.now.count (pivots_of pivots.now).row i) (λ o. ⊤) }
+    requires { PivotsOfRows F.ops (R.system rows.now) (pivots_of pivots.now) }
+    ensures put { let P = pivots_of pivots.now in
+        (asked : List Exchange) → length asked ≡ P.count + P.count →
+        Put F.ops (R.system rows.now) S.meaning (state P None asked)
+        scout.old scout.new findings.old findings.new (ended result) }
+    ensures there { IfOk result (λ i. i < length (R.system rows.now).rows) }
+    ensures outside { IfOk result (Outside pivots.now.count (pivots_of pivots.now).row) }
 {
     let questions = 2 * pivots.count() + 1;
     let x = pivots.solution::<F, R>(rows);
@@ -79,11 +89,19 @@ fn ask_columns<F: Field, R: Rows, S: Scout<F>>(
     coefficients: &[u16; MOST_MINUTES],
     findings: &mut Findings,
 ) -> Result<usize, Outcome>
-    requires pivots { PivotsOfRows F.Field.ops (R.Rows.system rows.now) (pivots_of pivots.now) }
-    requires row { (row < length (R.Rows.system rows.now).rows) × Outside pivots.now.count (pivots_of pivots.now).row row }
-    requires coefficients { Begins pivots.now.count (row_coefficients F.Field.ops (entry F.Field.ops (R.Rows.system rows.now)) (pivots_of pivots.now) row) coefficients.now }
-    ensures put { (asked : List Exchange) → length asked ≡ pivots.now.count + pivots.now.count + 1 → Put F.Field.ops (R.Rows.system rows.now) S.Scout.answer S.Scout.after (state (pivots_of pivots.now) (Some row) asked) scout.old scout.new findings.old findings.new result }
-    ensures place { MatchResult result (λ j. (j < (R.Rows.system rows.now).width) × (schur F.Field.ops (entry F.Field.ops (R.Rows.system rows.now)) (pivots_of pivots.now) row j ≢ 0)) (λ o. ⊤) }
+    requires pivots { PivotsOfRows F.ops (R.system rows.now) (pivots_of pivots.now) }
+    requires there { row < length (R.system rows.now).rows }
+    requires outside { Outside pivots.now.count (pivots_of pivots.now).row row }
+    requires coefficients { let P = pivots_of pivots.now in
+        let A = entry F.ops (R.system rows.now) in
+        Begins P.count (row_coefficients F.ops A P row) coefficients.now }
+    ensures put { let P = pivots_of pivots.now in
+        (asked : List Exchange) → length asked ≡ P.count + P.count + 1 →
+        Put F.ops (R.system rows.now) S.meaning (state P (Some row) asked)
+        scout.old scout.new findings.old findings.new (ended result) }
+    ensures below { IfOk result (λ j. j < (R.system rows.now).width) }
+    ensures pivot { let A = entry F.ops (R.system rows.now) in
+        IfOk result (λ j. schur F.ops A (pivots_of pivots.now) row j ≢ 0) }
 {
     let questions = 2 * pivots.count() + 2;
     let u = pivots.multipliers::<F>(row, coefficients);
@@ -98,16 +116,18 @@ fn ask_columns<F: Field, R: Rows, S: Scout<F>>(
     Ok(minute)
 }
 
-// One turn: the row question, the column question of the row named, and a pivot more; or how the run ends.
+// One turn: the row question, the column question of the row named, and a pivot more; or how the
+// run ends.
 fn turn<F: Field, R: Rows, S: Scout<F>>(
     rows: &R,
     scout: &mut S,
     pivots: &mut PivotSpace<'_>,
     findings: &mut Findings,
 ) -> Result<(), Outcome>
-    requires { PivotsOfRows F.Field.ops (R.Rows.system rows.now) (pivots_of pivots.old) }
-    ensures turned { Turned F.Field.ops (R.Rows.system rows.now) S.Scout.answer S.Scout.after (pivots_of pivots.old) (pivots_of pivots.new) scout.old scout.new findings.old findings.new result }
-    ensures grown { Grown F.Field.ops (R.Rows.system rows.now) (pivots_of pivots.old) (pivots_of pivots.new) result }
+    requires { PivotsOfRows F.ops (R.system rows.now) (pivots_of pivots.old) }
+    ensures turned { Turned F.ops (R.system rows.now) S.meaning (pivots_of pivots.old) (pivots_of pivots.new)
+        scout.old scout.new findings.old findings.new (ended result) }
+    ensures grown { Grown F.ops (R.system rows.now) (pivots_of pivots.old) (pivots_of pivots.new) result }
 {
     let row = ask_rows::<F, R, S>(rows, scout, pivots, findings)?;
     let coefficients = pivots.row_coefficients::<F, R>(rows, row);
@@ -124,7 +144,8 @@ fn complete<F: Field, R: Rows, S: Scout<F>>(
     findings: &mut Findings,
 ) -> Outcome
     requires { pivots.old.count ≡ 0 }
-    ensures { Settles F.Field.ops (R.Rows.system rows.now) S.Scout.answer S.Scout.after scout.old scout.new findings.old findings.new result }
+    ensures { Settles F.ops (R.system rows.now) S.meaning
+        scout.old scout.new findings.old findings.new result }
 {
     loop {
         if let Err(outcome) = turn::<F, R, S>(rows, scout, pivots, findings) {
@@ -133,15 +154,22 @@ fn complete<F: Field, R: Rows, S: Scout<F>>(
     }
 }
 
-// Settles the rows: finds minutes that satisfy them all, or shows that none do, with pivots that the scout points to.
-// Refuses a work space under 8192 words (6), and then changes nothing.
+/// Settles the rows: finds minutes that satisfy them all, or shows that none do, with pivots that
+/// the scout points to. What is found stands in the record: the minutes of a solved run, or the
+/// blame of a contradiction. Refuses a work space under 8192 words (6), and then changes nothing.
+/// What an accepted call leaves in the work space is left free.
 pub fn settle<F: Field, R: Rows, S: Scout<F>>(
     rows: &R,
     scout: &mut S,
     work: &mut [u16],
     findings: &mut Findings,
 ) -> Result<Outcome, Refusal>
-    ensures { SettlesIn F.Field.ops (R.Rows.system rows.now) S.Scout.answer S.Scout.after scout.old scout.new work.old work.new findings.old findings.new result }
+    ensures answer { numbered_as (λ _. tt) result ≡ settle_answer (length work.old) }
+    ensures settles { IfOk result (Settles F.ops (R.system rows.now) S.meaning
+        scout.old scout.new findings.old findings.new) }
+    ensures scout { OnErr result (scout.new ≡ scout.old) }
+    ensures work { OnErr result (work.new ≡ work.old) }
+    ensures findings { OnErr result (findings.new ≡ findings.old) }
 {
     if work.len() < WORK_WORDS {
         return Err(Refusal::SpaceTooShort);
@@ -150,14 +178,19 @@ pub fn settle<F: Field, R: Rows, S: Scout<F>>(
     Ok(complete::<F, R, S>(rows, scout, &mut pivots, findings))
 }
 
-// Settles by the scan, which never lies, so that the run never fails.
+/// Settles by the scan, whose answers are all true, so that the run never fails. Refuses as
+/// `settle` does.
 pub fn settle_by_scan<F: Field, R: Rows>(
     rows: &R,
     work: &mut [u16],
     findings: &mut Findings,
 ) -> Result<Outcome, Refusal>
-    ensures settles { (scan : Scan) → SettlesIn F.Field.ops (R.Rows.system rows.now) (λ state S q. first_place F.Field.ops S q) (λ state S q. state) scan scan work.old work.new findings.old findings.new result }
-    ensures never_fails { MatchResult result (λ o. IsFailed o → ⊥) (λ e. ⊤) }
+    ensures answer { numbered_as (λ _. tt) result ≡ settle_answer (length work.old) }
+    ensures settles { (scan : Scan) → IfOk result (Settles F.ops (R.system rows.now) (scan_meaning F.ops)
+        scan scan findings.old findings.new) }
+    ensures never_fails { IfOk result (λ outcome. ¬ IsFailed (outcome_case outcome)) }
+    ensures work { OnErr result (work.new ≡ work.old) }
+    ensures findings { OnErr result (findings.new ≡ findings.old) }
 {
     settle::<F, R, Scan>(rows, &mut Scan, work, findings)
 }

@@ -1,8 +1,8 @@
 -- The rows below the counter have been looked at. Assumes nothing.
 use Rattle.rows.specs.Values.{entry}
 use Rattle.algebra.specs.Profiles.{eliminate}
-use Rattle.solver.specs.Pivots.{SamePivots}
-use Rattle.solver.specs.Spaces.{pivots_of}
+use Rattle.solver.specs.Steps.Pivots.{SamePivots}
+use Rattle.solver.specs.Steps.Spaces.{pivots_of}
 use Rattle.solver.proofs.profiles.profile.Given as goal
 
 abbrev pub invariant-loop-row : goal.invariant-loop-row

@@ -19,7 +19,7 @@ loop-row-preserved g c =
     elim c.if-factor-ne0.branch [
       | then-factor-ne0 w ↦
           w.total-is ∙ w.plus-total.ensures ∙ rw (w.times.ensures)
-          (dot_next F u weights row c.factor_at-factor.result w.weight_at-weight.result c.loop-row.total c.loop-row.invariant c.factor_at-factor.ensures w.weight_at-weight.ensures)
+          (dot_next F u weights row c.factor_at-factor.result w.entry_or_zero-weight.result c.loop-row.total c.loop-row.invariant c.factor_at-factor.ensures w.entry_or_zero-weight.ensures)
       | else-factor-ne0 w ↦
           w.total-is ∙ c.loop-row.invariant ∙ sym (dot_skip F u weights row (sym c.factor_at-factor.ensures ∙ w.if-factor-ne0.false))
     ]

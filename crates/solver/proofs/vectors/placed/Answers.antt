@@ -1,5 +1,5 @@
 use Rattle.std.proofs.Common.{slice_index, arith, subst, ◌∙◌, length-set}
-use Rattle.solver.specs.Slices.{Placed}
+use Rattle.solver.specs.Steps.Vectors.{Placed}
 use Rattle.solver.proofs.Placing.{placed_none, placed_next}
 use Rattle.solver.proofs.vectors.placed.Goals as goal
 
@@ -10,7 +10,7 @@ pub loop-k-preserved : goal.loop-k-preserved
 loop-k-preserved g c =
     let k = c.loop-k.k in
     let Q = slice_index c.args.places.now in
-    let there = c.requires.1 k c.loop-k-test.true in
+    let there = c.requires.below k c.loop-k-test.true in
     rw (c.from.ensures) (
       length-set c.loop-k.vector (Q k) (slice_index c.args.values.now k) ∙ c.loop-k.invariant.0,
       placed_next Q (slice_index c.args.values.now) k c.loop-k.vector (omega (arith, c.loop-k.invariant.0, there)) c.loop-k.invariant.1,

@@ -1,6 +1,6 @@
 -- The first values are in their places. Assumes nothing.
 use Rattle.std.proofs.Common.{◌≡◌, length, slice_index}
-use Rattle.solver.specs.Slices.{Placed}
+use Rattle.solver.specs.Steps.Vectors.{Placed}
 use Rattle.solver.proofs.vectors.placed.Given as goal
 
 abbrev pub invariant-loop-k : goal.invariant-loop-k

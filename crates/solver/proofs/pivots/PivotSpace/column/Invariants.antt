@@ -1,7 +1,7 @@
 -- The places below the counter are done. Assumes nothing.
 use Rattle.field.specs.Slices.{Filled}
 use Rattle.rows.specs.Values.{entry}
-use Rattle.solver.specs.Spaces.{pivots_of}
+use Rattle.solver.specs.Steps.Spaces.{pivots_of}
 use Rattle.solver.proofs.pivots.PivotSpace.column.Given as goal
 
 abbrev pub invariant-loop-k : goal.invariant-loop-k

@@ -3,8 +3,8 @@ use Rattle.std.specs.Option.{unwrap_or}
 use Rattle.field.specs.LawsForAll.{lawful}
 use Rattle.rows.specs.Values.{entry}
 use Rattle.algebra.specs.Pivots.{grow}
-use Rattle.solver.specs.Pivots.{pivots_in, LastRow, SamePivots}
-use Rattle.solver.specs.Spaces.{pivots_of}
+use Rattle.solver.specs.Steps.Pivots.{pivots_in, LastRow, SamePivots}
+use Rattle.solver.specs.Steps.Spaces.{pivots_of}
 use Rattle.solver.proofs.Steps.{grown_held, same_z, same_y, same_pivot}
 use Rattle.solver.proofs.pivots.PivotSpace.grow.Goals as goal
 
@@ -25,12 +25,12 @@ returns g c zs =
     let kept = c.add_last_row.ensures.kept in
     let kept_before = c.widen.ensures.kept in
     let T = grow F.ops A (pivots_of old) i j in
-    let pivot = same_pivot F A s old.rows.now old.columns.now old.inverse.now old.fit i j z column y zs c.column-column.ensures c.times-y.ensures c.complement.result w c.complement.ensures (c.unwrap_or-w.ensures ∙ ap (λ r. unwrap_or r 0) c.inverse.ensures) in
+    let pivot = same_pivot F A s old.pivot_rows.now old.pivot_columns.now old.inverse.now old.fit i j z column y zs c.column-column.ensures c.times-y.ensures c.complement.result w c.complement.ensures (c.unwrap_or-w.ensures ∙ ap (λ r. unwrap_or r 0) c.inverse.ensures) in
     let last = subst (λ s. LastRow F.ops s w (slice_index (take old.count z)) wide.inverse.now new.inverse.now) kept_before.count c.add_last_row.ensures.last in
-    let held = grown_held F A s old.rows.now old.columns.now old.inverse.now old.fit i j (slice_index y) (slice_index (take s z)) w
-    (same_y F A s old.rows.now old.columns.now old.inverse.now old.fit i j z column y zs c.column-column.ensures c.times-y.ensures)
-    (same_z F A s old.rows.now old.columns.now old.inverse.now old.fit i j z column y zs c.column-column.ensures c.times-y.ensures)
-    pivot wide.inverse.now new.inverse.now c.widen.ensures.widened last c.requires.0 in
-    subst (λ n. SamePivots (pivots_in (n + 1) (slice_set new.rows.now n i) (slice_set new.columns.now n j) new.inverse.now) T) (sym (kept.count ∙ kept_before.count))
-    (subst (λ rows. SamePivots (pivots_in (s + 1) (slice_set rows s i) (slice_set new.columns.now s j) new.inverse.now) T) (sym (kept.rows ∙ kept_before.rows))
-    (subst (λ columns. SamePivots (pivots_in (s + 1) (slice_set old.rows.now s i) (slice_set columns s j) new.inverse.now) T) (sym (kept.columns ∙ kept_before.columns)) held))
+    let held = grown_held F A s old.pivot_rows.now old.pivot_columns.now old.inverse.now old.fit i j (slice_index y) (slice_index (take s z)) w
+    (same_y F A s old.pivot_rows.now old.pivot_columns.now old.inverse.now old.fit i j z column y zs c.column-column.ensures c.times-y.ensures)
+    (same_z F A s old.pivot_rows.now old.pivot_columns.now old.inverse.now old.fit i j z column y zs c.column-column.ensures c.times-y.ensures)
+    pivot wide.inverse.now new.inverse.now c.widen.ensures.widened last c.requires.room in
+    subst (λ n. SamePivots (pivots_in (n + 1) (slice_set new.pivot_rows.now n i) (slice_set new.pivot_columns.now n j) new.inverse.now) T) (sym (kept.count ∙ kept_before.count))
+    (subst (λ rows. SamePivots (pivots_in (s + 1) (slice_set rows s i) (slice_set new.pivot_columns.now s j) new.inverse.now) T) (sym (kept.rows ∙ kept_before.rows))
+    (subst (λ columns. SamePivots (pivots_in (s + 1) (slice_set old.pivot_rows.now s i) (slice_set columns s j) new.inverse.now) T) (sym (kept.columns ∙ kept_before.columns)) held))

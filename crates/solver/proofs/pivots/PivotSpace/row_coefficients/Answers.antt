@@ -1,7 +1,7 @@
 use Rattle.std.proofs.Common.{◌≡◌, ℕ, ap, sym, arith, subst, slice_index, ◌∙◌}
 use Rattle.field.specs.LawsForAll.{lawful}
 use Rattle.rows.specs.Values.{entry}
-use Rattle.solver.specs.Spaces.{pivots_of}
+use Rattle.solver.specs.Steps.Spaces.{pivots_of}
 use Rattle.solver.proofs.Steps.{RowsCombined, rows_none, rows_next, rows_skip}
 use Rattle.solver.proofs.pivots.PivotSpace.row_coefficients.Goals as goal
 use Rattle.solver.proofs.pivots.PivotSpace.row_coefficients.Goals.{then-weight-ne0, else-weight-ne0}

@@ -1,6 +1,6 @@
 -- The rows of the inverse below the counter are added. Assumes nothing.
 use Rattle.rows.specs.Values.{entry}
-use Rattle.solver.specs.Spaces.{pivots_of}
+use Rattle.solver.specs.Steps.Spaces.{pivots_of}
 use Rattle.solver.proofs.Steps.{RowsCombined}
 use Rattle.solver.proofs.pivots.PivotSpace.row_coefficients.Given as goal
 

@@ -1,7 +1,7 @@
 use Rattle.std.proofs.Common.{slice_index, arith, length}
 use Rattle.field.specs.LawsForAll.{lawful}
 use Rattle.algebra.specs.Vectors.{mul_vec}
-use Rattle.solver.specs.Spaces.{pivots_of}
+use Rattle.solver.specs.Steps.Spaces.{pivots_of}
 use Rattle.solver.proofs.Filling.{filled_next}
 use Rattle.solver.proofs.Products.{dot-of_row}
 use Rattle.solver.proofs.pivots.PivotSpace.times.Goals as goal

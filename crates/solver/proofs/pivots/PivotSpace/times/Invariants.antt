@@ -2,7 +2,7 @@
 use Rattle.std.proofs.Common.{slice_index}
 use Rattle.field.specs.Slices.{Filled}
 use Rattle.algebra.specs.Vectors.{mul_vec}
-use Rattle.solver.specs.Spaces.{pivots_of}
+use Rattle.solver.specs.Steps.Spaces.{pivots_of}
 use Rattle.solver.proofs.pivots.PivotSpace.times.Given as goal
 
 abbrev pub invariant-loop-k : goal.invariant-loop-k

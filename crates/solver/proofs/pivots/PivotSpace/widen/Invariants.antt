@@ -1,7 +1,7 @@
 -- The rows below the counter are widened. Assumes nothing.
 use Rattle.std.proofs.Common.{slice_index}
-use Rattle.solver.specs.Pivots.{RowsWidened}
-use Rattle.solver.specs.Spaces.{SamePlaces}
+use Rattle.solver.specs.Steps.Pivots.{RowsWidened}
+use Rattle.solver.specs.Steps.Spaces.{SamePlaces}
 use Rattle.solver.proofs.pivots.PivotSpace.widen.Given as goal
 
 abbrev pub invariant-loop-k : goal.invariant-loop-k

@@ -3,7 +3,7 @@ use Rattle.std.proofs.lemmas.Iterator.{first_from_Range}
 use Rattle.field.specs.Operations.{first_from}
 use Rattle.rows.specs.Values.{choice, column_value}
 use Rattle.solver.proofs.Searches.{first_nonzero_held, test}
-use Rattle.solver.proofs.questions.first_minute.Goals as goal
+use Rattle.solver.proofs.questions.first_column.Goals as goal
 
 pub returns : goal.returns
 returns g c =

@@ -1,21 +1,27 @@
 -- The elimination, row by row. Assumes nothing.
-use Rattle.std.proofs.Common.{◌≡◌, ℕ, zero, suc, ◌+◌, ◌<◌, ◌≤◌, ◌==◌, not, true, false, List, length, Some, None, Option, sym, refl, ap, subst, ◌∙◌, arith}
+use Rattle.std.proofs.Common.{◌≡◌, ℕ, zero, suc, ◌+◌, ◌<◌, ◌≤◌, ◌==◌, not, true, false, List, length, slice_index, take, Some, None, Option, sym, refl, ap, subst, ◌∙◌, arith}
 use Rattle.field.specs.Operations.{Operations, first_from}
 use Rattle.field.specs.Laws.{Lawful}
 use Rattle.field.specs.Slices.{Filled}
-use Rattle.rows.specs.Systems.{System}
+use Rattle.rows.specs.Systems.{System, WellFormed}
 use Rattle.rows.specs.Values.{entry}
-use Rattle.algebra.specs.Places.{Outside}
-use Rattle.algebra.specs.Pivots.{Pivots, PivotsOf, schur, grow}
+use Rattle.algebra.specs.Places.{Distinct, Outside}
+use Rattle.algebra.specs.Vectors.{unit_minus}
+use Rattle.algebra.specs.Pivots.{Pivots, PivotsOf, row_coefficients, schur, grow}
 use Rattle.algebra.specs.Profiles.{fresh_column, with_row, eliminate}
 use Rattle.algebra.proofs.Elimination.{eliminate-Elimination}
 use Rattle.algebra.proofs.Pivots.{count-le_rows}
 use Rattle.algebra.proofs.Counting.{get_or-values}
 use Rattle.algebra.proofs.Profiles.{pivot_rows-length, rank_profile-RankProfile, RankProfile-iff_LeastLongest}
-use Rattle.solver.specs.Pivots.{SamePivots}
+use Rattle.solver.specs.Slices.{IsVector}
+use Rattle.solver.specs.Steps.Pivots.{SamePivots}
+use Rattle.solver.specs.Steps.Vectors.{Begins}
 use Rattle.solver.specs.Questions.{about_columns, value_at, first_place}
 use Rattle.solver.specs.Runs.{u_of}
 use Rattle.solver.specs.Profiling.{profile_of, Profiles}
+use Rattle.solver.proofs.Asking.{columns_asked, column_left}
+use Rattle.solver.proofs.Verifying.{first_true}
+use Rattle.solver.proofs.Running.{room}
 use Rattle.solver.proofs.Same.{schur-same, grow-same, PivotsOf-same}
 
 -- a search goes by the values searched
@@ -38,8 +44,8 @@ SamePivots-trans P Q R a b =
       inverse = λ k l hk hl. a.inverse k l (omega (arith, b.count)) (omega (arith, b.count)) ∙ b.inverse k l hk hl;
     }
 
--- a row looked at, by what the search for a fresh column finds
-pub with_row-is : (K : Operations) (m : ℕ) (A : ℕ → ℕ → ℕ) (P : Pivots) (i : ℕ) (r : Option ℕ) → fresh_column K m A P i ≡ r → with_row K m A P i ≡ elim r [ None ↦ P | Some j ↦ grow K A P i j ]
+-- a row of the elimination, by what the search for a fresh column finds
+with_row-is : (K : Operations) (m : ℕ) (A : ℕ → ℕ → ℕ) (P : Pivots) (i : ℕ) (r : Option ℕ) → fresh_column K m A P i ≡ r → with_row K m A P i ≡ elim r [ None ↦ P | Some j ↦ grow K A P i j ]
 unfolding with_row
 with_row-is K m A P i r e = ap (λ r. elim r [ None ↦ P | Some j ↦ grow K A P i j ]) e
 
@@ -83,11 +89,11 @@ module _ (F : Lawful) (m : ℕ) (A : ℕ → ℕ → ℕ) where
         omega arith
 
 -- the fresh column is the first place that the column question is about
-pub fresh_asked : (F : Lawful) (S : System) (P : Pivots) (i : ℕ) → ((j : ℕ) → j < S.width → value_at F.ops S (about_columns (u_of F.ops S P i)) j ≡ schur F.ops (entry F.ops S) P i j) →
+fresh_asked : (F : Lawful) (S : System) (P : Pivots) (i : ℕ) → ((j : ℕ) → j < S.width → value_at F.ops S (about_columns (u_of F.ops S P i)) j ≡ schur F.ops (entry F.ops S) P i j) →
     fresh_column F.ops S.width (entry F.ops S) P i ≡ first_place F.ops S (about_columns (u_of F.ops S P i))
 fresh_asked F S P i same = sym (first_from-congr (value_at F.ops S (about_columns (u_of F.ops S P i))) (schur F.ops (entry F.ops S) P i) S.width 0 (λ j h. same j (omega arith)))
 
--- what is written when all rows have been looked at
+-- what is written after all rows
 pub profiled : (F : Lawful) (S : System) (P : Pivots) (list list' : List ℕ) → SamePivots P (eliminate F.ops S.width (entry F.ops S) (length S.rows)) → Filled P.count P.row list list' → Profiles F.ops S list list' P.count
 profiled F S P list list' same W =
     let n = length S.rows in
@@ -105,3 +111,23 @@ profiled F S P list list' same W =
       profile = rank_profile-RankProfile F n S.width A;
       least = (RankProfile-iff_LeastLongest F n S.width A (profile_of F.ops S)).0 (rank_profile-RankProfile F n S.width A);
     }
+
+-- a row of the elimination, from what the code puts into its column question
+module _ (F : Lawful) (S : System) (formed : WellFormed S) (P : Pivots) (I : PivotsOf F.ops (length S.rows) S.width (entry F.ops S) P) (i : ℕ) (there : i < length S.rows) (outside : Outside P.count P.row i)
+    (z us : List ℕ) (n : ℕ) (many : n ≡ length S.rows) (zs : Begins P.count (row_coefficients F.ops (entry F.ops S) P i) z) (held : Distinct P.count P.row → Outside P.count P.row i → IsVector 96 (unit_minus F.ops i P.count P.row (slice_index z)) us)
+    (r : Option ℕ) (found : r ≡ first_place F.ops S (about_columns (take n us))) where
+  left : (j : ℕ) → value_at F.ops S (about_columns (u_of F.ops S P i)) j ≡ schur F.ops (entry F.ops S) P i j
+  left j = column_left F S formed P I i j there
+
+  first : first_place F.ops S (about_columns (u_of F.ops S P i)) ≡ r
+  first = ap (first_place F.ops S) (sym (columns_asked F S formed P I i z us n many outside zs held)) ∙ sym found
+
+  pub eliminated_row : with_row F.ops S.width (entry F.ops S) P i ≡ elim r [ None ↦ P | Some j ↦ grow F.ops (entry F.ops S) P i j ]
+  eliminated_row = with_row-is F.ops S.width (entry F.ops S) P i r (fresh_asked F S P i (λ j h. left j) ∙ first)
+
+  -- a fresh column has room for one pivot more
+  pub fresh_room : (j : ℕ) → r ≡ Some j → record { room : P.count < 64; row : i < 96; minute : j < 64 }
+  fresh_room j e =
+      let t = first_true F.ops S (about_columns (u_of F.ops S P i)) (Some j) (first ∙ e) in
+      let below = room F S P I i j there t.0 (λ zero. t.1 (left j ∙ zero)) in
+      record { room = omega (arith, formed.few_minutes); row = omega (arith, formed.few_rows); minute = omega (arith, t.0, formed.few_minutes) }

@@ -2,7 +2,7 @@ use Rattle.std.proofs.Common.{ap, ◌∙◌}
 use Rattle.std.specs.Option.{unwrap_or}
 use Rattle.field.specs.LawsForAll.{lawful}
 use Rattle.solver.proofs.Readings.{entry_read}
-use Rattle.solver.proofs.vectors.weight_at.Goals as goal
+use Rattle.solver.proofs.vectors.entry_or_zero.Goals as goal
 
 pub returns : goal.returns
 returns g c =

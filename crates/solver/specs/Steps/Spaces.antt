@@ -2,13 +2,13 @@
 use Rattle.std.specs.Prelude.{◌≡◌}
 use Rattle.algebra.specs.Pivots.{Pivots}
 use Rattle.solver.specs.declared.pivots.PivotSpace.{PivotSpace}
-use Rattle.solver.specs.Pivots.{pivots_in}
+use Rattle.solver.specs.Steps.Pivots.{pivots_in}
 
 abbrev pub pivots_of : PivotSpace → Pivots
-pivots_of s = pivots_in s.count s.rows.now s.columns.now s.inverse.now
+pivots_of s = pivots_in s.count s.pivot_rows.now s.pivot_columns.now s.inverse.now
 
 -- it holds the same places, and maybe another inverse
 pub record SamePlaces (s t : PivotSpace) : Type 0 where
   pub count : t.count ≡ s.count
-  pub rows : t.rows.now ≡ s.rows.now
-  pub columns : t.columns.now ≡ s.columns.now
+  pub rows : t.pivot_rows.now ≡ s.pivot_rows.now
+  pub columns : t.pivot_columns.now ≡ s.pivot_columns.now
