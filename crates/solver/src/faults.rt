@@ -36,8 +36,10 @@ pub fn verify<F: Field, R: Rows>(
     question: Question<'_>,
     answer: Option<usize>,
 ) -> Result<Option<usize>, Fault>
-    ensures answer { faulted result ≡ verified F.ops (R.system rows.now) (asked question.entry) answer }
-    ensures verifies { Verifies F.ops (R.system rows.now) (asked question.entry) answer (faulted result) }
+    ensures answer { let S = R.system rows.now in
+        faulted result ≡ verified F.ops S (asked question.entry) answer }
+    ensures verifies { let S = R.system rows.now in
+        Verifies F.ops S (asked question.entry) answer (faulted result) }
 {
     let Some(place) = answer else {
         return match question.first_place::<F, R>(rows) {

@@ -32,7 +32,8 @@ impl Findings {
     // Writes the minutes of a solved run.
     pub(crate) fn write_minutes(&mut self, x: &[u16])
         requires { length x.now ≤ MOST_MINUTES }
-        ensures minutes { Filled (length x.now) (slice_index x.now) self.old.minutes self.new.minutes }
+        ensures minutes { let codes = slice_index x.now in
+            Filled (length x.now) codes self.old.minutes self.new.minutes }
         ensures blame { self.new.blame ≡ self.old.blame }
     {
         // In a copy: a part of a field that is lent beside ghost fields is not covered by the

@@ -20,7 +20,9 @@ pub struct PivotSpace<'a> {
     pivot_rows: &'a mut [u16],
     pivot_columns: &'a mut [u16],
     inverse: &'a mut [u16],
-    ghost fit: { PivotsFit count «pivot_rows».now «pivot_columns».now inverse.now } by { PivotsFit-prop count «pivot_rows».now «pivot_columns».now inverse.now },
+    ghost fit: { PivotsFit count «pivot_rows».now «pivot_columns».now
+        inverse.now } by { PivotsFit-prop count «pivot_rows».now «pivot_columns».now
+            inverse.now },
 }
 
 impl<'a> PivotSpace<'a> {
@@ -205,7 +207,8 @@ impl<'a> PivotSpace<'a> {
         column: &[u16; MOST_MINUTES],
     ) -> u16
         requires { length z.now ≡ self.now.count }
-        ensures { let combined = dot F.ops self.now.count (slice_index z.now) (slice_index column.now) in
+        ensures { let z = slice_index z.now in
+            let combined = dot F.ops self.now.count z (slice_index column.now) in
             let own = entry F.ops (R.system rows.now) row minute in
             result ≡ F.ops.plus own (F.ops.negative combined) }
     {

@@ -43,7 +43,8 @@ pub fn profile<F: Field, R: Rows>(
     work: &mut [u16],
     list: &mut [u16],
 ) -> Result<usize, Refusal>
-    ensures answer { numbered_as (λ _. tt) result ≡ profile_answer (length work.old) (length list.old) }
+    ensures answer { numbered_as (λ _. tt) result
+        ≡ profile_answer (length work.old) (length list.old) }
     ensures profiles { IfOk result (Profiles F.ops (R.system rows.now) list.old list.new) }
     ensures work { OnErr result (work.new ≡ work.old) }
     ensures list { OnErr result (list.new ≡ list.old) }

@@ -125,9 +125,11 @@ fn turn<F: Field, R: Rows, S: Scout<F>>(
     findings: &mut Findings,
 ) -> Result<(), Outcome>
     requires { PivotsOfRows F.ops (R.system rows.now) (pivots_of pivots.old) }
-    ensures turned { Turned F.ops (R.system rows.now) S.meaning (pivots_of pivots.old) (pivots_of pivots.new)
+    ensures turned { Turned F.ops (R.system rows.now) S.meaning
+        (pivots_of pivots.old) (pivots_of pivots.new)
         scout.old scout.new findings.old findings.new (ended result) }
-    ensures grown { Grown F.ops (R.system rows.now) (pivots_of pivots.old) (pivots_of pivots.new) result }
+    ensures grown { let P = pivots_of pivots.old in
+        Grown F.ops (R.system rows.now) P (pivots_of pivots.new) result }
 {
     let row = ask_rows::<F, R, S>(rows, scout, pivots, findings)?;
     let coefficients = pivots.row_coefficients::<F, R>(rows, row);
@@ -186,7 +188,8 @@ pub fn settle_by_scan<F: Field, R: Rows>(
     findings: &mut Findings,
 ) -> Result<Outcome, Refusal>
     ensures answer { numbered_as (λ _. tt) result ≡ settle_answer (length work.old) }
-    ensures settles { (scan : Scan) → IfOk result (Settles F.ops (R.system rows.now) (scan_meaning F.ops)
+    ensures settles { (scan : Scan) →
+        IfOk result (Settles F.ops (R.system rows.now) (scan_meaning F.ops)
         scan scan findings.old findings.new) }
     ensures never_fails { IfOk result (λ outcome. ¬ IsFailed (outcome_case outcome)) }
     ensures work { OnErr result (work.new ≡ work.old) }

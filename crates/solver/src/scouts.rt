@@ -15,8 +15,10 @@ pub trait Scout<F: Field> {
 
     /// The answer to a question about rows: a place, or none.
     fn ask<R: Rows>(&mut self, rows: &R, question: Question<'_>) -> Option<usize>
-        ensures answer { result ≡ meaning.answer self.old (R.system rows.now) (asked question.entry) }
-        ensures after { self.new ≡ meaning.after self.old (R.system rows.now) (asked question.entry) };
+        ensures answer { let S = R.system rows.now in
+            result ≡ meaning.answer self.old S (asked question.entry) }
+        ensures after { let S = R.system rows.now in
+            self.new ≡ meaning.after self.old S (asked question.entry) };
 }
 
 /// The scan: the scout that names the first place whose value is not 0.

@@ -66,7 +66,8 @@ pub(crate) fn add_row<F: Field, R: Rows>(
     requires { Codes F.ops.q values.old }
     ensures { let weight : ℕ → ℕ = entry F.ops (R.system rows.now) row in
         let more : ℕ → ℕ = λ c. F.ops.times factor (weight c) in
-        Filled MOST_MINUTES (λ c. F.ops.plus (slice_index values.old c) (more c)) values.old values.new }
+        let sum : ℕ → ℕ = λ c. F.ops.plus (slice_index values.old c) (more c) in
+        Filled MOST_MINUTES sum values.old values.new }
 {
     if factor == 0 {
         return;
@@ -111,7 +112,8 @@ pub(crate) fn placed<const N: usize>(places: &[u16], values: &[u16; MOST_MINUTES
     requires few { length places.now ≤ MOST_MINUTES }
     requires below { (k : ℕ) → k < length places.now → slice_index places.now k < N }
     ensures long { length result ≡ N }
-    ensures placed { Placed (length places.now) (slice_index places.now) (slice_index values.now) result }
+    ensures placed { let Q = slice_index places.now in
+        Placed (length places.now) Q (slice_index values.now) result }
 {
     let mut vector = zeros();
     for k in 0..places.len() {

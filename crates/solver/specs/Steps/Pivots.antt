@@ -30,7 +30,8 @@ pub record PivotsFit (s : ℕ) (rows columns inverse : List ℕ) : Type 0 where
   pub columns_below : (k : ℕ) → k < s → slice_index columns k < MOST_MINUTES
 
 -- there is one proof of it at most
-pub PivotsFit-prop : (s : ℕ) (rows columns inverse : List ℕ) → IsProp (PivotsFit s rows columns inverse)
+pub PivotsFit-prop : (s : ℕ) (rows columns inverse : List ℕ) →
+    IsProp (PivotsFit s rows columns inverse)
 PivotsFit-prop s rows columns inverse = Prim.hlevel props
 
 -- two pivots are the same as far as they count
