@@ -1,10 +1,10 @@
 -- What an hour is, how it is opened and how it is filled. Assumes nothing.
 use Rattle.std.specs.Prelude.{[], Result}
-use Rattle.frame.specs.declared.refusals.Refusal.{Refusal}
+use Rattle.frame.specs.Refusals.{RefusalCase}
 use Rattle.lines.specs.declared.openings.FieldName.{FieldName}
 use Rattle.lines.specs.declared.openings.Opening.{Opening}
 use Rattle.lines.specs.Reading.{map_ok}
-use Rattle.rows.specs.Sizes.{checked}
+use Rattle.rows.specs.Sizes.{size_answer}
 use Rattle.rows.specs.Systems.{Row, System}
 use Rattle.rows.specs.Ledgers.{take_answer, after_take}
 
@@ -14,8 +14,8 @@ pub record OpenHour : Type 0 where
   pub system : System
 
 -- the hour that is opened, for a width of 1 to 64: it has no rows
-abbrev pub opened : Opening → Result OpenHour Refusal
-opened o = map_ok (λ width. record { field = o.field; system = record { width = width; rows = [] } }) (checked 64 o.width)
+abbrev pub opened : Opening → Result OpenHour RefusalCase
+opened o = map_ok (λ width. record { field = o.field; system = record { width = width; rows = [] } }) (size_answer 64 o.width)
 
 -- what a table takes of a row: it has room for 96
 abbrev pub filled : OpenHour → Row → OpenHour

@@ -1,7 +1,7 @@
 -- Which lines are accepted, and what they leave. Assumes nothing.
 use Rattle.std.specs.Prelude.{◌≡◌, ℕ, ◌<◌, ◌≤◌, List, [], ◌∷◌, ◌++◌, length, Some, None, Ok, Err, Option}
 use Rattle.frame.specs.declared.terms.Term.{Term}
-use Rattle.frame.specs.declared.refusals.Refusal.{Refusal}
+use Rattle.frame.specs.Refusals.{RefusalCase}
 use Rattle.frame.specs.Frames.{minute_at}
 use Rattle.lines.specs.declared.openings.Opening.{Opening}
 use Rattle.lines.specs.Frames.{line_of, IsFrame}
@@ -38,4 +38,4 @@ pub record SessionLaws : Type 0 where
   pub only_opened : (line : List ℕ) (n : ℕ) → line_answer None line ≡ Ok n → (o : Opening) × OpensHour line o
   pub filled : (h : OpenHour) (line : List ℕ) (s : ℕ) (ts : List Term) → FillsHour h line s ts → (line_answer (Some h) line ≡ Ok (length h.system.rows)) × (after_line (Some h) line ≡ Some (row_more h s ts))
   pub only_filled : (h : OpenHour) (line : List ℕ) (n : ℕ) → line_answer (Some h) line ≡ Ok n → (s : ℕ) × (ts : List Term) × FillsHour h line s ts
-  pub refused : (hour : Option OpenHour) (line : List ℕ) (e : Refusal) → line_answer hour line ≡ Err e → after_line hour line ≡ hour
+  pub refused : (hour : Option OpenHour) (line : List ℕ) (e : RefusalCase) → line_answer hour line ≡ Err e → after_line hour line ≡ hour

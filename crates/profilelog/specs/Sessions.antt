@@ -1,8 +1,7 @@
 -- What each line answers and leaves, by the hour that is open. Assumes nothing.
 use Rattle.std.specs.Prelude.{◌≡◌, ℕ, Bool, cond, List, [], ◌∷◌, ◌++◌, take, Some, None, Ok, Err, Option, Result}
 use Rattle.std.specs.Option.{is_some, is_none}
-use Rattle.frame.specs.declared.refusals.Refusal.{Refusal}
-use Rattle.frame.specs.declared.refusals.Refusal.TheVariants.{UnknownLine}
+use Rattle.frame.specs.Refusals.{RefusalCase, refused}
 use Rattle.lines.specs.declared.kinds.LineKind.{LineKind}
 use Rattle.lines.specs.declared.kinds.LineKind.TheVariants.{Open, Frame}
 use Rattle.lines.specs.declared.openings.Opening.{Opening}
@@ -22,18 +21,18 @@ in_turn hour Open = is_none hour
 in_turn hour Frame = is_some hour
 
 -- what a line says, which has this kind and reads like that; unknown or out of turn it is refused by 13, whatever else it says
-abbrev pub heard_as : Option OpenHour → Option LineKind → Result Said Refusal → Result Said Refusal
-heard_as hour None entry = Err UnknownLine
-heard_as hour (Some kind) entry = cond (in_turn hour kind) entry (Err UnknownLine)
+abbrev pub heard_as : Option OpenHour → Option LineKind → Result Said RefusalCase → Result Said RefusalCase
+heard_as hour None entry = Err (refused 13 0)
+heard_as hour (Some kind) entry = cond (in_turn hour kind) entry (Err (refused 13 0))
 
-abbrev pub heard : Option OpenHour → List ℕ → Result Said Refusal
+abbrev pub heard : Option OpenHour → List ℕ → Result Said RefusalCase
 heard hour line = heard_as hour (line_kind line) (read_entry line)
 
 -- opening an hour: the answer is its width
-abbrev pub open_answer : Opening → Result ℕ Refusal
+abbrev pub open_answer : Opening → Result ℕ RefusalCase
 open_answer o = map_ok (λ h. h.system.width) (opened o)
 
-abbrev pub opened_or : Result OpenHour Refusal → Option OpenHour → Option OpenHour
+abbrev pub opened_or : Result OpenHour RefusalCase → Option OpenHour → Option OpenHour
 opened_or (Ok h) hour = Some h
 opened_or (Err e) hour = hour
 
@@ -41,8 +40,8 @@ abbrev pub after_open : Option OpenHour → Opening → Option OpenHour
 after_open hour o = opened_or (opened o) hour
 
 -- a frame's row goes into the hour: the answer is its number
-abbrev pub frame_answer : Option OpenHour → Row → Result ℕ Refusal
-frame_answer None r = Err UnknownLine
+abbrev pub frame_answer : Option OpenHour → Row → Result ℕ RefusalCase
+frame_answer None r = Err (refused 13 0)
 frame_answer (Some h) r = take_answer h.system 96 r
 
 abbrev pub after_frame : Option OpenHour → Row → Option OpenHour
@@ -53,7 +52,7 @@ abbrev pub row : Content → Row
 row c = record { sum = c.sum; terms = c.terms }
 
 -- by what a line says
-abbrev pub entry_answer : Option OpenHour → Said → Result ℕ Refusal
+abbrev pub entry_answer : Option OpenHour → Said → Result ℕ RefusalCase
 entry_answer hour (opens o) = open_answer o
 entry_answer hour (carries c) = frame_answer hour (row c)
 
@@ -62,11 +61,11 @@ after_entry hour (opens o) = after_open hour o
 after_entry hour (carries c) = after_frame hour (row c)
 
 -- a line's answer: the number that it is accepted with, or its refusal
-abbrev pub line_answer : Option OpenHour → List ℕ → Result ℕ Refusal
+abbrev pub line_answer : Option OpenHour → List ℕ → Result ℕ RefusalCase
 line_answer hour line = and_then (heard hour line) (entry_answer hour)
 
 -- and what it leaves: a refused line leaves the hour as it was
-abbrev pub after_heard : Option OpenHour → Result Said Refusal → Option OpenHour
+abbrev pub after_heard : Option OpenHour → Result Said RefusalCase → Option OpenHour
 after_heard hour (Ok entry) = after_entry hour entry
 after_heard hour (Err e) = hour
 

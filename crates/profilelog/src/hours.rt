@@ -1,6 +1,6 @@
 //! An hour that is open.
 ghost use Rattle.std.specs.Prelude.{◌≡◌};
-ghost use Rattle.lines.specs.Reading.{map_ok};
+ghost use Rattle.frame.specs.Refusals.{numbered};
 ghost use Rattle.rows.specs.Ledgers.{row_of, take_answer};
 ghost use Rattle.rows.specs.Tables.{system_of};
 ghost use Rattle.profilelog.specs.Hours.{opened, filled};
@@ -35,7 +35,7 @@ impl Model for Hour {
 impl Hour {
     // The hour that is opened, without rows; refuses a width that is not 1 to 64 (16).
     pub fn open(opening: Opening) -> Result<Hour, Refusal>
-        ensures { result ≡ opened opening }
+        ensures { numbered result ≡ opened opening }
     {
         let width = Width::try_from(usize::from(opening.width))?;
         Ok(Hour {
@@ -66,7 +66,7 @@ impl Hour {
 
     // Appends a frame as the last row and returns its number, as a table does.
     pub fn take(&mut self, frame: &Frame<'_>) -> Result<usize, Refusal>
-        ensures answer { result ≡ take_answer self.old.system 96 (row_of frame.now) }
+        ensures answer { numbered result ≡ take_answer self.old.system 96 (row_of frame.now) }
         ensures after { self.new ≡ filled self.old (row_of frame.now) }
     {
         self.rows.take(frame)

@@ -1,7 +1,7 @@
 //! What answers the lines: the hour that they open and fill.
 ghost use Rattle.std.specs.Prelude.{◌≡◌, None};
 ghost use Rattle.std.specs.Option.{option_map};
-ghost use Rattle.lines.specs.Reading.{map_ok};
+ghost use Rattle.frame.specs.Refusals.{numbered, numbered_as};
 ghost use Rattle.lines.specs.Entries.{said};
 ghost use Rattle.lines.specs.Kinds.{line_kind};
 ghost use Rattle.rows.specs.Ledgers.{row_of};
@@ -64,7 +64,7 @@ impl Session {
     // What a line of this kind says in its turn. Out of turn it is refused (13), whatever it says.
     fn hear(&self, kind: Option<LineKind>, line: &[u8]) -> Result<Entry, Refusal>
         requires { kind ≡ line_kind line.now }
-        ensures { map_ok said result ≡ heard self.now line.now }
+        ensures { numbered_as said result ≡ heard self.now line.now }
     {
         match kind {
             Some(kind) if self.in_turn(kind) => read_entry(line),
@@ -74,7 +74,7 @@ impl Session {
 
     // Opens an hour and returns its width.
     fn open(&mut self, opening: Opening) -> Result<usize, Refusal>
-        ensures answer { result ≡ open_answer opening }
+        ensures answer { numbered result ≡ open_answer opening }
         ensures after { self.new ≡ after_open self.old opening }
     {
         let hour = Hour::open(opening)?;
@@ -85,7 +85,7 @@ impl Session {
 
     // Takes a frame into the hour and returns its row's number.
     fn take(&mut self, frame: &Frame<'_>) -> Result<usize, Refusal>
-        ensures answer { result ≡ frame_answer self.old (row_of frame.now) }
+        ensures answer { numbered result ≡ frame_answer self.old (row_of frame.now) }
         ensures after { self.new ≡ after_frame self.old (row_of frame.now) }
     {
         self.hour.as_mut().ok_or(Refusal::UnknownLine)?.take(frame)
@@ -94,7 +94,7 @@ impl Session {
     // Does what a line of this kind says, and returns the number that its answer has.
     fn take_line(&mut self, kind: Option<LineKind>, line: &[u8]) -> Result<usize, Refusal>
         requires { kind ≡ line_kind line.now }
-        ensures answer { result ≡ line_answer self.old line.now }
+        ensures answer { numbered result ≡ line_answer self.old line.now }
         ensures after { self.new ≡ after_line self.old line.now }
     {
         match self.hear(kind, line)? {

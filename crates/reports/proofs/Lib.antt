@@ -1,2 +1,4 @@
+pub mod Reporting
 pub mod Written
-pub mod Unrefused
+pub mod Heads
+pub mod WorkSpaces

@@ -1,5 +1,5 @@
 //! The report on rows.
-ghost use Rattle.std.specs.Prelude.{◌≡◌, ◌≤◌, MatchResult, ⊤, take};
+ghost use Rattle.std.specs.Prelude.{◌≡◌, ◌≤◌, IfOk, take};
 ghost use Rattle.std.specs.String.{string_bytes};
 ghost use Rattle.reports.specs.Reports.{written, ScanSettles, Reports};
 ghost use Rattle.solver.specs.Profiling.{profile_of};
@@ -17,19 +17,19 @@ use solver::spaces::WORK_WORDS;
 use std::alloc::{AllocError, Global};
 use std::fmt;
 
-// A report: the row rank profile, and how the rows settle.
+/// A report: the row rank profile, and how the rows settle.
 #[derive(Clone, Copy)]
 pub struct Report<'a> {
     pub profile: &'a [u16],
     pub settle: OutcomeText<'a>,
 }
 
-// Each in a line of its own.
+/// Each in a line of its own.
 impl fmt::Display for Report<'_> {
     ghost use Rattle.std.specs.Prelude.{Some};
     ghost use Rattle.reports.specs.Reports.{report_text};
 
-    ghost output = { λ report. Some (report_text report.profile.now report.settle.outcome report.settle.width report.settle.codes.now) };
+    ghost output = { λ report. Some (report_text report.profile.now report.settle.outcome report.settle.noted report.settle.width report.settle.codes.now) };
 
     fn fmt<W: fmt::Write>(&self, f: &mut fmt::Formatter<W>) -> fmt::Result {
         let count = self.profile.len();
@@ -43,7 +43,7 @@ impl fmt::Display for Report<'_> {
 
 // The codes that a run of these rows has written.
 fn written<'a, R: Rows>(outcome: Outcome, rows: &R, findings: &'a Findings) -> &'a [u16]
-    ensures { result.now ≡ written outcome (R.Rows.system rows.now) findings.now }
+    ensures { result.now ≡ written outcome (R.system rows.now) findings.now }
 {
     match outcome {
         Outcome::Solved(_) => &findings.minutes[..rows.width()],
@@ -59,7 +59,7 @@ fn profiled<F: Field, R: Rows>(
     list: &mut [u16; MOST_ROWS],
 ) -> usize
     ensures few { result ≤ 96 }
-    ensures profile { take result list.new ≡ profile_of F.Field.ops (R.Rows.system rows.now) }
+    ensures profile { take result list.new ≡ profile_of F.ops (R.system rows.now) }
 {
     // The work space and the list are long enough, so this does not refuse.
     profile::<F, R>(rows, work, list).unwrap()
@@ -67,7 +67,7 @@ fn profiled<F: Field, R: Rows>(
 
 // How the rows settle by the scan, and what the run has found.
 fn settled<F: Field, R: Rows>(rows: &R, work: &mut [u16; WORK_WORDS]) -> (Outcome, Findings)
-    ensures { ScanSettles F.Field.ops (R.Rows.system rows.now) result.0 result.1 }
+    ensures { ScanSettles F.ops (R.system rows.now) result.0 result.1 }
 {
     let mut findings = Findings::new();
     // The work space is long enough, so this does not refuse.
@@ -75,9 +75,14 @@ fn settled<F: Field, R: Rows>(rows: &R, work: &mut [u16; WORK_WORDS]) -> (Outcom
     (outcome, findings)
 }
 
-// A line with the row rank profile, the rows that carry something new, and a line with how the rows settle by the scan.
-pub fn report_on<F: Field, R: Rows>(heap: Global, rows: &R) -> Result<String, AllocError>
-    ensures { MatchResult result (λ text. Reports F.Field.ops (R.Rows.system rows.now) (string_bytes text)) (λ e. ⊤) }
+/// A line with the row rank profile, the rows that carry something new, and a line with how the rows settle by the scan. Of
+/// the minutes so many are noted, and count towards a whole hour. Fails for want of memory alone.
+pub fn report_on<F: Field, R: Rows>(
+    heap: Global,
+    rows: &R,
+    noted: usize,
+) -> Result<String, AllocError>
+    ensures { IfOk result (λ text. Reports F.ops (R.system rows.now) noted (string_bytes text)) }
 {
     let mut work = [0; WORK_WORDS];
     let mut list = [0; MOST_ROWS];
@@ -85,6 +90,7 @@ pub fn report_on<F: Field, R: Rows>(heap: Global, rows: &R) -> Result<String, Al
     let (outcome, findings) = settled::<F, R>(rows, &mut work);
     let settle = OutcomeText {
         outcome,
+        noted,
         width: rows.width(),
         codes: written(outcome, rows, &findings),
     };

@@ -1,13 +1,15 @@
 -- Answers in words. Assumes nothing.
-use Rattle.std.specs.Prelude.{◌≡◌, ℕ, ◌+◌, ◌<◌, ◌≤◌, ◌≢◌, ◌⊎◌, List, [], ◌∷◌, length, take, min, slice_index}
+use Rattle.std.specs.Prelude.{◌≡◌, ℕ, ◌+◌, ◌<◌, ◌≤◌, ◌⊎◌, List, [], ◌∷◌, length, take, min, slice_index}
 use Rattle.field.specs.Operations.{Operations}
 use Rattle.rows.specs.Systems.{System}
 use Rattle.solver.specs.declared.findings.Findings.{Findings}
 use Rattle.solver.specs.declared.outcomes.Count.{Count}
 use Rattle.solver.specs.declared.outcomes.Outcome.{Outcome}
 use Rattle.solver.specs.declared.outcomes.Outcome.TheVariants.{Solved, Contradiction, Failed}
+use Rattle.solver.specs.declared.outcomes.Extent.TheVariants as Extents
 use Rattle.solver.specs.declared.scouts.Scan.{Scan}
-use Rattle.solver.specs.Questions.{first_place}
+use Rattle.solver.specs.Outcomes.{extent_of, extent_case}
+use Rattle.solver.specs.Scouts.{scan_meaning}
 use Rattle.solver.specs.Laws.{Settles}
 use Rattle.solverspeed.specs.declared.Kind.{Kind}
 use Rattle.solverspeed.specs.declared.Kind.TheVariants.{Part, Whole, Contradiction as Contradicted, Failed as Failure, NoHour}
@@ -37,10 +39,10 @@ pub record Written (kind : Kind) (c : Count) (found before after : List ℕ) : T
 abbrev pub nothing : Count
 nothing = record { pivots = 0; questions = 0 }
 
--- solved, with as many pivots as minutes or with fewer
+-- solved, in part or whole; no minutes are noted
 abbrev pub SolvedAs : System → Count → Kind → Type 0
-SolvedAs S c Part = c.pivots ≢ S.width
-SolvedAs S c Whole = c.pivots ≡ S.width
+SolvedAs S c Part = extent_of c.pivots 0 S.width ≡ extent_case Extents.Part
+SolvedAs S c Whole = extent_of c.pivots 0 S.width ≡ extent_case Extents.Whole
 SolvedAs S c Contradicted = ⊥
 SolvedAs S c Failure = ⊥
 SolvedAs S c NoHour = ⊥
@@ -54,11 +56,9 @@ Says S (Failed e) f before after = Written Failure nothing [] before after
 -- an answer says how a settle of these rows by the scan ended
 pub record Settled (K : Operations) (S : System) (before after : List ℕ) : Type 0 where
   pub from : Findings
-  pub minutes_long : length from.minutes ≡ 64
-  pub blame_long : length from.blame ≡ 96
   pub to : Findings
   pub outcome : Outcome
-  pub settles : (scan : Scan) → Settles K S (λ state S q. first_place K S q) (λ state S q. state) scan scan from to outcome
+  pub settles : (scan : Scan) → Settles K S (scan_meaning K) scan scan from to outcome
   pub says : Says S outcome to before after
 
 -- an answer to the words of an hour: that they are none, or how a settle of some rows ended

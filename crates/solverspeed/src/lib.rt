@@ -19,7 +19,7 @@ use rows::reading::Rows;
 use rows::sizes::Width;
 use rows::tables::Table;
 use solver::findings::Findings;
-use solver::outcomes::{Count, Outcome};
+use solver::outcomes::{Count, Extent, Outcome};
 use solver::runs::settle_by_scan;
 use solver::spaces::WORK_WORDS;
 
@@ -123,10 +123,9 @@ fn write_outcome(answer: &mut [u16], table: &Table, outcome: Outcome, findings: 
 {
     match outcome {
         Outcome::Solved(count) => {
-            let kind = if count.pivots == table.width() {
-                Kind::Whole
-            } else {
-                Kind::Part
+            let kind = match count.extent(0, table.width()) {
+                Extent::Whole => Kind::Whole,
+                Extent::Part => Kind::Part,
             };
             write_answer(answer, kind, count, &findings.minutes[..table.width()]);
         }

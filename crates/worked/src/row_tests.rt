@@ -7,7 +7,7 @@ use frame::frames::Frame;
 use frame::refusals::Refusal;
 use frame::terms::Term;
 use notes::layers::Noted;
-use rows::caps::{Cap, take_into_pile};
+use rows::caps::{Cap, take_under_caps};
 use rows::ledgers::Ledger;
 use rows::reading::Rows;
 use rows::sizes::{Limit, Width};
@@ -59,14 +59,14 @@ fn ledgers_fill(rt: HostRuntime) -> Result<(), Fail> {
     fills(&rt, cap(1, table(1)?)?, 1);
     fills(&rt, cap(5, cap(3, table(1)?)?)?, 3);
     fills(&rt, cap(3, cap(5, table(1)?)?)?, 3);
-    let mut pile = cap(3, cap(1, table(64)?)?)?;
+    let mut caps = cap(3, cap(1, table(64)?)?)?;
     let terms = [term(63, 1)];
     let frame = Frame::check(7, &terms).ok().ok_or("frame")?;
     for answer in [Ok(0), Err(Refusal::LedgerFull)] {
-        assert_eq!(rt; take_into_pile(&mut pile, &frame), answer);
+        assert_eq!(rt; take_under_caps(&mut caps, &frame), answer);
     }
-    reads(&rt, pile.below(), 0, 7, &terms);
-    assert_eq!(rt; pile.into_below().into_below().width(), 64);
+    reads(&rt, caps.below(), 0, 7, &terms);
+    assert_eq!(rt; caps.into_below().into_below().width(), 64);
     Ok(())
 }
 

@@ -9,11 +9,12 @@ use frame::refusals::Refusal;
 use frame::terms::Term;
 use notes::layers::Noted;
 use reports::outcomes::OutcomeText;
+use reports::reports::report_on;
 use rows::reading::Rows;
 use rows::tables::Table;
 use solver::findings::Findings;
-use solver::lies::Lie;
-use solver::outcomes::{Count, Failure, Outcome};
+use solver::faults::Fault;
+use solver::outcomes::{Count, Extent, Failure, Outcome};
 use solver::profiles::profile;
 use solver::questions::{Question, Side};
 use solver::runs::{settle, settle_by_scan};
@@ -23,24 +24,25 @@ use std::test::Fail;
 
 // A scout that is a scan for some questions, and then gives one answer, whatever is asked.
 #[derive(Drop)]
-struct Liar {
-    honest: usize,
+struct FaultyScout {
+    true_answers: usize,
     answer: Option<usize>,
 }
 
-impl<F: Field> Scout<F> for Liar {
+impl<F: Field> Scout<F> for FaultyScout {
     ghost use Rattle.std.specs.Prelude.{◌==◌, ◌-◌, cond};
     ghost use Rattle.solver.specs.Questions.{first_place};
 
-    ghost answer = { λ liar S q. cond (liar.honest == 0) liar.answer (first_place F.ops S q) };
-
-    ghost after = { λ liar S q. record { honest = liar.honest - 1; answer = liar.answer } };
+    ghost meaning = { record {
+        answer = λ scout S q. cond (scout.true_answers == 0) scout.answer (first_place F.ops S q);
+        after = λ scout S q. record { true_answers = scout.true_answers - 1; answer = scout.answer }
+    } };
 
     fn ask<R: Rows>(&mut self, rows: &R, question: Question<'_>) -> Option<usize> {
-        if self.honest == 0 {
+        if self.true_answers == 0 {
             return self.answer;
         }
-        self.honest -= 1;
+        self.true_answers -= 1;
         question.first_place::<F, R>(rows)
     }
 }
@@ -95,29 +97,32 @@ fn settles<F: Field, R: Rows>(
     holds(rt, &findings.blame, blame, 8);
 }
 
-// A scout that lies after so many questions fails the settle, which writes nothing and asks it no more.
-fn lies<F: Field>(
+// A scout that answers falsely after so many true answers fails the settle, which writes nothing and asks it no more.
+fn fails<F: Field>(
     rt: &impl Abort,
     table: &Table,
-    honest: usize,
+    true_answers: usize,
     answer: Option<usize>,
     side: Side,
-    lie: Lie,
+    fault: Fault,
 ) {
-    let mut liar = Liar { honest, answer };
+    let mut faulty = FaultyScout {
+        true_answers,
+        answer,
+    };
     let mut work = [0; 8192];
     let mut findings = used_record();
-    let question = honest.saturating_add(1);
+    let question = true_answers.saturating_add(1);
     let failed = Ok(Outcome::Failed(Failure {
         question,
         side,
-        lie,
+        fault,
     }));
     assert_eq!(rt;
-        settle::<F, Table, Liar>(table, &mut liar, &mut work, &mut findings),
+        settle::<F, Table, FaultyScout>(table, &mut faulty, &mut work, &mut findings),
         failed
     );
-    assert_eq!(rt; liar.honest, 0);
+    assert_eq!(rt; faulty.true_answers, 0);
     holds(rt, &findings.minutes, &[], 9);
     holds(rt, &findings.blame, &[], 8);
 }
@@ -133,7 +138,7 @@ fn a_session_settles(rt: HostRuntime) -> Result<(), Fail> {
     assert_eq!(rt; take(&mut table, 18, &[term(0, 2), term(1, 1)]), Ok(2));
     settles::<Prime, Table>(&rt, &table, contradiction(2, 6), &[], &[65520, 65520, 1]);
     let last = rows_of(&rt, 2, &[(1, &[term(0, 1)]), (65520, &[term(1, 1)])])?;
-    lies::<Prime>(&rt, &last, 0, None, Side::Row, Lie::Missed(0));
+    fails::<Prime>(&rt, &last, 0, None, Side::Row, Fault::Missed(0));
     Ok(())
 }
 
@@ -170,23 +175,65 @@ fn small_rows_settle(rt: HostRuntime) -> Result<(), Fail> {
     Ok(())
 }
 
+// An hour of two minutes, both noted, with a row of this sum, 2 and 1 times the minutes 5 and 7.
+fn all_noted(rt: &impl Abort, sum: u16) -> Result<Noted<Prime, Table>, Fail> {
+    let rows = rows_of(rt, 2, &[(sum, &[term(0, 2), term(1, 1)])])?;
+    let mut noted = Noted::new(rows);
+    for (minute, code) in [(0, 5), (1, 7)] {
+        assert_eq!(rt; noted.note(minute, code), Ok(()));
+    }
+    Ok(noted)
+}
+
 #[test]
-fn lies_are_told(rt: HostRuntime) -> Result<(), Fail> {
+fn an_hour_that_is_all_notes_settles(rt: HostRuntime) -> Result<(), Fail> {
+    let noted = all_noted(&rt, 17)?;
+    settles::<Prime, Noted<Prime, Table>>(&rt, &noted, solved(0, 1), &[0, 0], &[]);
+    let mut x = [0; 2];
+    noted.put_in(&mut x);
+    assert_eq!(rt; x, [5, 7]);
+    let report = report_on::<Prime, Noted<Prime, Table>>(rt.alloc(), &noted, noted.noted_count())?;
+    assert!(rt; report.as_bytes() == b"profile,0\nsolved,whole,0,1,0,0\n".as_slice());
+    let other = all_noted(&rt, 18)?;
+    settles::<Prime, Noted<Prime, Table>>(&rt, &other, contradiction(0, 2), &[], &[1]);
+    Ok(())
+}
+
+#[test]
+fn pivots_and_notes_make_an_hour_whole(rt: HostRuntime) {
+    for (pivots, noted, width, extent) in [
+        (2, 0, 2, Extent::Whole),
+        (1, 1, 2, Extent::Whole),
+        (0, 64, 64, Extent::Whole),
+        (1, 0, 2, Extent::Part),
+        (2, 1, 2, Extent::Part),
+        (1, usize::MAX, 0, Extent::Part),
+    ] {
+        let count = Count {
+            pivots,
+            questions: 1,
+        };
+        assert_eq!(rt; count.extent(noted, width), extent);
+    }
+}
+
+#[test]
+fn faults_are_told(rt: HostRuntime) -> Result<(), Fail> {
     // Minutes of 0 satisfy row 0 and not row 1, which has a weight at minute 1 alone.
     let table = rows_of(&rt, 3, &[(0, &[term(0, 1)]), (3, &[term(1, 1)])])?;
-    for (answer, lie) in [
-        (None, Lie::Missed(1)),
-        (Some(0), Lie::Zero(0)),
-        (Some(2), Lie::Outside(2)),
+    for (answer, fault) in [
+        (None, Fault::Missed(1)),
+        (Some(0), Fault::Zero(0)),
+        (Some(2), Fault::NoPlace(2)),
     ] {
-        lies::<Prime>(&rt, &table, 0, answer, Side::Row, lie);
+        fails::<Prime>(&rt, &table, 0, answer, Side::Row, fault);
     }
-    for (answer, lie) in [
-        (None, Lie::Missed(1)),
-        (Some(2), Lie::Zero(2)),
-        (Some(3), Lie::Outside(3)),
+    for (answer, fault) in [
+        (None, Fault::Missed(1)),
+        (Some(2), Fault::Zero(2)),
+        (Some(3), Fault::NoPlace(3)),
     ] {
-        lies::<Octets>(&rt, &table, 1, answer, Side::Column, lie);
+        fails::<Octets>(&rt, &table, 1, answer, Side::Column, fault);
     }
     Ok(())
 }
@@ -196,10 +243,11 @@ fn failures_are_written(rt: HostRuntime) -> Result<(), Fail> {
     let outcome = Outcome::Failed(Failure {
         question: 2,
         side: Side::Column,
-        lie: Lie::Outside(3),
+        fault: Fault::NoPlace(3),
     });
     let text = OutcomeText {
         outcome,
+        noted: 0,
         width: 3,
         codes: &[],
     };
@@ -252,17 +300,17 @@ fn a_short_space_is_no_profile(rt: HostRuntime) -> Result<(), Fail> {
 #[test]
 fn a_short_space_settles_nothing(rt: HostRuntime) -> Result<(), Fail> {
     let table = rows_of(&rt, 2, &[(5, &[term(0, 1)])])?;
-    let mut liar = Liar {
-        honest: 3,
+    let mut faulty = FaultyScout {
+        true_answers: 3,
         answer: None,
     };
     let mut work = [5; 8192];
     let mut findings = used_record();
     assert_eq!(rt;
-        settle::<Prime, Table, Liar>(&table, &mut liar, &mut work[..8191], &mut findings),
+        settle::<Prime, Table, FaultyScout>(&table, &mut faulty, &mut work[..8191], &mut findings),
         Err(Refusal::SpaceTooShort)
     );
-    assert_eq!(rt; liar.honest, 3);
+    assert_eq!(rt; faulty.true_answers, 3);
     holds(&rt, &work, &[], 5);
     holds(&rt, &findings.minutes, &[], 9);
     holds(&rt, &findings.blame, &[], 8);

@@ -1,17 +1,16 @@
-use Rattle.std.proofs.Common.{arith}
+use Rattle.frame.proofs.Apart.{err_ok}
 use Rattle.solverspeed.proofs.settle_table.Goals as goal
 
 pub returns-in-Ok : goal.returns-in-Ok
 returns-in-Ok g c =
     record {
       from = c.new-findings.result;
-      minutes_long = c.new-findings.ensures.minutes.long;
-      blame_long = c.new-findings.ensures.blame.long;
       to = c.settle_by_scan.new.findings;
       outcome = c.in-Ok.outcome;
-      settles = λ scan. (c.in-Ok.ensures.settles scan).1;
+      settles = c.in-Ok.ensures.settles;
       says = c.write_outcome.ensures;
     }
 
+-- the work space is long enough
 pub returns-in-Err : goal.returns-in-Err
-returns-in-Err g c = let short = (c.in-Err.ensures.settles (record {})).1 in absurd (omega arith)
+returns-in-Err g c = absurd (err_ok _ tt c.in-Err.ensures.answer)

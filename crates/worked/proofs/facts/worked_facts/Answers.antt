@@ -25,4 +25,9 @@ returns c =
       profile = refl;
       contradiction = refl;
       blame = refl;
+      most_terms = refl;
+      minutes = refl;
+      most_minutes = refl;
+      most_rows = refl;
+      work_words = refl;
     }

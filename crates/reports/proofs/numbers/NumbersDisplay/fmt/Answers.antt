@@ -1,4 +1,4 @@
-use Rattle.std.proofs.Common.{rules, refl}
+use Rattle.std.proofs.Common.{rules}
 use Rattle.std.proofs.lemmas.Grind.{put_two}
 use Rattle.reports.proofs.Written.{number_more}
 use Rattle.reports.proofs.numbers.NumbersDisplay.fmt.Goals as goal
