@@ -1,4 +1,4 @@
 mod NoNotes
 mod Readings
 mod Satisfied
-mod Strikes
+mod Changes

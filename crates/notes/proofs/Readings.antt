@@ -5,7 +5,7 @@ use Rattle.std.specs.Iterator.{YieldsFirst}
 use Rattle.std.specs.Iterator.Adapters.{filter_source, filter_callee, filter_steps}
 use Rattle.std.specs.declared.iter.Filter.{Filter}
 use Rattle.std.specs.List.{slice_get}
-use Rattle.std.specs.Option.{option_map, is_none}
+use Rattle.std.specs.Option.{option_map, option_and_then, is_none}
 use Rattle.std.proofs.lemmas.Iterator.{YieldsList}
 use Rattle.std.proofs.lemmas.Iterator.Consumers.{YieldsList-from_first, YieldsList-from_filter}
 use denote.Param.Members.{Mut}
@@ -14,7 +14,7 @@ use Rattle.field.specs.Operations.{Operations}
 use Rattle.frame.specs.declared.terms.Term.{Term}
 use Rattle.rows.specs.declared.terms.RowTerms.{RowTerms}
 use Rattle.rows.specs.RowTerms.{terms_left}
-use Rattle.rows.specs.Systems.{System, empty_row, row_at, count_in, term_in, term_count_of, term_of}
+use Rattle.rows.specs.Systems.{Row, System, empty_row, row_at, term_count_of, term_of}
 use Rattle.rows.proofs.RowValues.{found_terms}
 use Rattle.notes.specs.Notes.{noted_code, open_terms, row_under, system_under}
 
@@ -28,7 +28,7 @@ module _ (K : Operations) (codes : List (Option ℕ)) (S : System) (i : ℕ) (ts
   row_there = slice_get-map (row_under K codes) S.rows i ∙ ap (option_map (row_under K codes)) (slice_get-get_or S.rows i empty_row (found_terms S.rows i ts found).0)
 
   pub open_count : Some (length (open_terms codes ts)) ≡ term_count_of (system_under K codes S) i
-  open_count = ap (λ us. Some (length (open_terms codes us))) (found_terms S.rows i ts found).1 ∙ sym (ap count_in row_there)
+  open_count = ap (λ us. Some (length (open_terms codes us))) (found_terms S.rows i ts found).1 ∙ sym (ap (option_map (λ (r : Row). length r.terms)) row_there)
 
   pub open_term : (k : ℕ) → slice_get (open_terms codes ts) k ≡ term_of (system_under K codes S) i k
-  open_term k = ap (λ us. slice_get (open_terms codes us) k) (found_terms S.rows i ts found).1 ∙ sym (ap (λ r. term_in r k) row_there)
+  open_term k = ap (λ us. slice_get (open_terms codes us) k) (found_terms S.rows i ts found).1 ∙ sym (ap (option_and_then (λ (r : Row). slice_get r.terms k)) row_there)

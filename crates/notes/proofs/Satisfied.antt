@@ -14,7 +14,7 @@ use Rattle.rows.specs.Systems.{Row, System, row_at}
 use Rattle.rows.specs.Values.{choice, weighted, Satisfies}
 use Rattle.rows.proofs.RowValues.{weighted_code}
 use Rattle.notes.specs.Notes.{noted_code, put_in, noted_alone, open_terms, row_under, NotesFit, SatisfiedUnder}
-use Rattle.notes.specs.Under.{row_under_at}
+use Rattle.notes.specs.Lemmas.Under.{row_under_at}
 
 module _ (F : Lawful) (codes : List (Option ℕ)) (x : ℕ → ℕ) where
   -- one term more, with its code if it is noted

@@ -1,3 +1,3 @@
 pub mod Notes
 pub mod Layers
-pub mod Under
+pub mod Lemmas

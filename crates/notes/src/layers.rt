@@ -12,23 +12,28 @@ use rows::terms::terms;
 use rows::values::row_value;
 use std::marker::PhantomData;
 
-// Rows, some minutes of which are noted.
+/// Rows, some minutes of which are noted. As rows, they are those below without the terms at noted
+/// minutes; each sum is less by what these terms add up to at the noted codes, and is a code.
 #[derive(Drop)]
 pub struct Noted<F: Field, R: Rows> {
     notes: Notes,
     below: R,
     field: PhantomData<F>,
-    ghost fits: { NotesFit F.ops (R.system below).width notes.codes } by { NotesFit-prop F.ops (R.system below).width notes.codes },
+    ghost fits: { NotesFit F.ops (R.system below).width notes.codes } by { NotesFit-prop },
 }
 
 impl<F: Field, R: Rows> Noted<F, R> {
     ghost use Rattle.std.specs.Prelude.{◌≡◌, ℕ, ◌≤◌, ◌↔◌, length};
     ghost use Rattle.field.specs.Slices.{Filled};
+    ghost use Rattle.frame.specs.Refusals.{numbered};
+    ghost use Rattle.frame.specs.Orders.{KeepsOrder};
     ghost use Rattle.rows.specs.Values.{choice, SatisfiesAll};
-    ghost use Rattle.notes.specs.Notes.{NotesFit, no_codes, note_answer, after_note, noted_code, noted_count, put_in, SatisfiedUnder};
+    ghost use Rattle.notes.specs.Notes.{NotesFit, no_codes, note_answer, note_order, after_note};
+    ghost use Rattle.notes.specs.Notes.{noted_code, noted_count};
+    ghost use Rattle.notes.specs.Notes.{put_in, SatisfiedUnder};
     ghost use Rattle.notes.specs.Layers.{codes_in, below, system_below, system_noted};
 
-    // The rows, with no minute noted.
+    /// The rows, with no minute noted.
     pub fn new(rows: R) -> Noted<F, R>
         ensures codes { codes_in result ≡ no_codes }
         ensures below { below result ≡ rows }
@@ -40,24 +45,29 @@ impl<F: Field, R: Rows> Noted<F, R> {
         }
     }
 
-    // The rows below, for reading.
+    /// The rows below, for reading.
     pub fn below(&self) -> &R
         ensures { result.now ≡ below self.now }
     {
         &self.below
     }
 
-    // The rows below; the notes are gone.
+    /// The rows below; the notes are gone.
     pub fn into_below(self) -> R
         ensures { result ≡ below self }
     {
         self.below
     }
 
-    // Notes a code for a minute; refuses a minute not below the width (2), then a code not below the field's size (3), then
-    // a minute that is noted (4).
+    /// Notes a code for a minute. Refuses a minute not below the width (2), then a code not below
+    /// the field's size (3), then a minute that is noted (4); a refusal leaves the notes as they
+    /// were.
     pub fn note(&mut self, minute: usize, code: u16) -> Result<(), Refusal>
-        ensures answer { result ≡ note_answer F.ops (system_below self.old).width (codes_in self.old) minute code }
+        ensures answer { let width = (system_below self.old).width in
+            numbered result ≡ note_answer F.ops width (codes_in self.old) minute code }
+        ensures order { let width = (system_below self.old).width in
+            let order = note_order F.ops width (codes_in self.old) minute code in
+            KeepsOrder order (numbered result) }
         ensures codes { codes_in self.new ≡ after_note result (codes_in self.old) minute code }
         ensures below { below self.new ≡ below self.old }
     {
@@ -74,7 +84,7 @@ impl<F: Field, R: Rows> Noted<F, R> {
         Ok(())
     }
 
-    // Removes all notes.
+    /// Removes all notes.
     pub fn clear_notes(&mut self)
         ensures codes { codes_in self.new ≡ no_codes }
         ensures below { below self.new ≡ below self.old }
@@ -82,7 +92,8 @@ impl<F: Field, R: Rows> Noted<F, R> {
         self.notes = Notes::new();
     }
 
-    // The noted code of a minute; none where none is noted. What is noted are codes, at minutes below the width.
+    /// The noted code of a minute; none where none is noted. What is noted are codes, at minutes
+    /// below the width.
     pub fn noted_code(&self, minute: usize) -> Option<u16>
         ensures code { result ≡ noted_code (codes_in self.now) minute }
         ensures fits { NotesFit F.ops (system_below self.now).width (codes_in self.now) }
@@ -90,19 +101,24 @@ impl<F: Field, R: Rows> Noted<F, R> {
         self.notes.get(minute)
     }
 
-    // How many minutes are noted.
+    /// How many minutes are noted.
     pub fn noted_count(&self) -> usize
         ensures { result ≡ noted_count (codes_in self.now) }
     {
         self.notes.count()
     }
 
-    // Puts the noted codes into a choice of minutes, as far as x reaches. Where x has all minutes, it satisfies the rows
-    // below afterwards just where it satisfied the rows under the notes before; the law says the same of every choice.
+    /// Puts the noted codes into a choice of minutes, as far as x reaches. Where x has all minutes,
+    /// it satisfies the rows below afterwards just where it satisfied the rows under the notes
+    /// before; the law says the same of every choice.
     pub fn put_in(&self, x: &mut [u16])
-        ensures codes { Filled (length x.old) (put_in (codes_in self.now) (choice x.old)) x.old x.new }
-        ensures satisfies { (system_below self.now).width ≤ length x.old → SatisfiesAll F.ops (system_noted self.now) (choice x.old) ↔ SatisfiesAll F.ops (system_below self.now) (choice x.new) }
-        ensures law { (y : ℕ → ℕ) → SatisfiedUnder F.ops (codes_in self.now) (system_below self.now) y }
+        ensures codes { let codes = put_in (codes_in self.now) (choice x.old) in
+            Filled (length x.old) codes x.old x.new }
+        ensures satisfies { (system_below self.now).width ≤ length x.old →
+            SatisfiesAll F.ops (system_noted self.now) (choice x.old) ↔
+            SatisfiesAll F.ops (system_below self.now) (choice x.new) }
+        ensures law { (y : ℕ → ℕ) →
+            SatisfiedUnder F.ops (codes_in self.now) (system_below self.now) y }
     {
         for (minute, place) in x.iter_mut().enumerate() {
             if let Some(code) = self.notes.get(minute) {
@@ -112,29 +128,42 @@ impl<F: Field, R: Rows> Noted<F, R> {
     }
 }
 
-// The calls of a ledger below. The notes stay.
+/// The calls of a ledger below. The notes stay.
 impl<F: Field, L: Ledger> Noted<F, L> {
     ghost use Rattle.std.specs.Prelude.{◌≡◌};
-    ghost use Rattle.rows.specs.Ledgers.{row_of, take_answer, after_take, strike_answer, after_strike, cleared};
+    ghost use Rattle.frame.specs.Refusals.{numbered};
+    ghost use Rattle.frame.specs.Orders.{KeepsOrder};
+    ghost use Rattle.frame.specs.Parts.{terms_of};
+    ghost use Rattle.rows.specs.Ledgers.{row_of, take_answer, take_order, after_take};
+    ghost use Rattle.rows.specs.Ledgers.{strike_answer, after_strike, cleared};
     ghost use Rattle.rows.specs.Values.{OthersSatisfied};
     ghost use Rattle.notes.specs.Notes.{row_under};
     ghost use Rattle.notes.specs.Layers.{codes_in, below, system_below, system_noted};
 
-    // Takes a frame as the ledger below does; a row under the notes is added to those shown.
+    /// Takes a frame as the ledger below does, and returns its row's number. Refuses the first term
+    /// whose minute is not below the width (2, at that term), then a full ledger (5); a refusal
+    /// leaves the rows as they were. The row shown is the frame's under the notes.
     pub fn take(&mut self, frame: &Frame<'_>) -> Result<usize, Refusal>
-        ensures answer { result ≡ take_answer (system_below self.old) (L.most (below self.old)) (row_of frame.now) }
-        ensures after { system_below self.new ≡ after_take result (system_below self.old) (row_of frame.now) }
-        ensures shown { system_noted self.new ≡ after_take result (system_noted self.old) (row_under F.ops (codes_in self.old) (row_of frame.now)) }
+        ensures answer { let limit = L.most (below self.old) in
+            numbered result ≡ take_answer (system_below self.old) limit (row_of frame.now) }
+        ensures order { let limit = L.most (below self.old) in
+            let order = take_order (system_below self.old) limit (terms_of frame.now) in
+            KeepsOrder order (numbered result) }
+        ensures after { let row = row_of frame.now in
+            system_below self.new ≡ after_take result (system_below self.old) row }
+        ensures shown { let row = row_under F.ops (codes_in self.old) (row_of frame.now) in
+            system_noted self.new ≡ after_take result (system_noted self.old) row }
         ensures kept { L.most (below self.new) ≡ L.most (below self.old) }
         ensures codes { codes_in self.new ≡ codes_in self.old }
     {
         self.below.take(frame)
     }
 
-    // Makes a row empty as the ledger below does; the row shown is empty too, and each choice of minutes satisfies
-    // another row shown just where it did.
+    /// Makes a row empty as the ledger below does. Refuses a row that does not exist (9), and then
+    /// leaves the rows as they were. The row shown is empty too, and each choice of minutes
+    /// satisfies another row shown just where it did.
     pub fn strike(&mut self, row: usize) -> Result<(), Refusal>
-        ensures answer { result ≡ strike_answer (system_below self.old) row }
+        ensures answer { numbered result ≡ strike_answer (system_below self.old) row }
         ensures after { system_below self.new ≡ after_strike result (system_below self.old) row }
         ensures shown { system_noted self.new ≡ after_strike result (system_noted self.old) row }
         ensures others { OthersSatisfied (system_noted self.old) (system_noted self.new) row }
@@ -144,7 +173,7 @@ impl<F: Field, L: Ledger> Noted<F, L> {
         self.below.strike(row)
     }
 
-    // Removes all rows.
+    /// Removes all rows.
     pub fn clear_rows(&mut self)
         ensures after { system_below self.new ≡ cleared (system_below self.old) }
         ensures shown { system_noted self.new ≡ cleared (system_noted self.old) }
@@ -155,13 +184,15 @@ impl<F: Field, L: Ledger> Noted<F, L> {
     }
 }
 
+// The rows under the notes.
 impl<F: Field, R: Rows> Rows for Noted<F, R> {
-    ghost use Rattle.notes.specs.Layers.{system_noted};
-    ghost use Rattle.notes.specs.Under.{system_under_formed};
+    ghost use Rattle.notes.specs.Layers.{codes_in, below, system_noted};
+    ghost use Rattle.notes.specs.Lemmas.Under.{system_under_formed};
 
     ghost system = { system_noted };
 
-    ghost formed = { λ noted. system_under_formed F.ops noted.notes.codes F.laws (R.system noted.below) (R.formed noted.below) };
+    ghost formed = { λ noted. let rows = below noted in
+        system_under_formed F.ops (codes_in noted) F.laws (R.system rows) (R.formed rows) };
 
     fn width(&self) -> usize {
         self.below.width()

@@ -1,5 +1,6 @@
 //! The codes that are noted.
 ghost use Rattle.std.specs.Prelude.{◌≡◌, length};
+ghost use Rattle.rows.specs.declared.sizes.TheConstants.{MOST_MINUTES};
 
 use rows::sizes::MOST_MINUTES;
 use rows::values::Choice;
@@ -8,7 +9,7 @@ use rows::values::Choice;
 #[derive(Clone, Copy)]
 pub(crate) struct Notes {
     codes: [Option<u16>; MOST_MINUTES],
-    ghost room: { length codes ≡ 64 },
+    ghost room: { length codes ≡ MOST_MINUTES },
 }
 
 impl Notes {
@@ -48,7 +49,7 @@ impl Notes {
 
     // Gives a minute its code.
     pub(crate) fn set(&mut self, minute: usize, code: u16)
-        requires { minute < 64 }
+        requires { minute < MOST_MINUTES }
         ensures { self.new.codes ≡ slice_set self.old.codes minute (Some code) }
     {
         self.codes[minute] = Some(code);
