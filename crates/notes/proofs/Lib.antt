@@ -1,3 +1,5 @@
+mod Completion
+mod Counts
 mod NoNotes
 mod Readings
 mod Satisfied

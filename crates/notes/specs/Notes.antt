@@ -1,5 +1,5 @@
 -- Which minutes are noted, with which codes, and what rows mean under them. Assumes nothing.
-use Rattle.std.specs.Prelude.{◌≡◌, ℕ, ◌<◌, ◌≤◌, List, length, map, Some, None, Ok, Err}
+use Rattle.std.specs.Prelude.{◌≡◌, ℕ, ◌+◌, ◌%◌, ◌<◌, ◌≤◌, List, length, map, Some, None, Ok, Err}
 use Rattle.std.specs.Prelude.{Option, Result, ◌↔◌, nat_le, replicate, slice_index_or, slice_set}
 use Rattle.std.specs.List.{filter}
 use Rattle.std.specs.Option.{IsSome, unwrap_or, is_some, is_none}
@@ -11,6 +11,7 @@ use Rattle.frame.specs.Orders.{Order, nothing, rule, AtStart, refuse, when}
 use Rattle.rows.specs.declared.sizes.TheConstants.{MOST_MINUTES}
 use Rattle.rows.specs.Systems.{Row, System}
 use Rattle.rows.specs.Values.{SatisfiesAll, row_value}
+use Rattle.rows.specs.Columns.{DifferentColumns, Determine}
 
 -- the code that is noted for a minute, if there is one
 abbrev pub noted_code : List (Option ℕ) → ℕ → Option ℕ
@@ -81,3 +82,23 @@ NotesFit-prop = Prim.hlevel props
 abbrev pub SatisfiedUnder : Operations → List (Option ℕ) → System → (ℕ → ℕ) → Type 0
 SatisfiedUnder K codes S x =
     SatisfiesAll K (system_under K codes S) x ↔ SatisfiesAll K S (put_in codes x)
+
+-- a choice of minutes has the noted codes at their minutes
+abbrev pub HasNotes : List (Option ℕ) → (ℕ → ℕ) → Type 0
+HasNotes codes y = (c code : ℕ) → noted_code codes c ≡ Some code → y c ≡ code
+
+-- each choice that satisfies the rows and has the noted codes is, read as codes, x with them put in
+abbrev pub OnlyChoice : Operations → List (Option ℕ) → System → (ℕ → ℕ) → Type 0
+OnlyChoice K codes S x =
+    (y : ℕ → ℕ) → SatisfiesAll K S y → HasNotes codes y →
+    (c : ℕ) → c < S.width → y c % K.q ≡ put_in codes x c
+
+-- columns that determine x under the notes leave no other choice, once they and the notes are as
+-- many as the minutes
+abbrev pub NotesComplete : Operations → List (Option ℕ) → System → Type 0
+NotesComplete K codes S =
+    (columns : List ℕ) (x : ℕ → ℕ) →
+    DifferentColumns K (system_under K codes S) columns →
+    length columns + noted_count codes ≡ S.width →
+    Determine K (system_under K codes S) columns x →
+    OnlyChoice K codes S x

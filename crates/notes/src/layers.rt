@@ -24,12 +24,14 @@ pub struct Noted<F: Field, R: Rows> {
 
 impl<F: Field, R: Rows> Noted<F, R> {
     ghost use Rattle.std.specs.Prelude.{◌≡◌, ℕ, ◌≤◌, ◌↔◌, length};
+    ghost use Rattle.std.specs.Option.{OnSome};
     ghost use Rattle.field.specs.Slices.{Filled};
     ghost use Rattle.frame.specs.Refusals.{numbered};
     ghost use Rattle.frame.specs.Orders.{KeepsOrder};
+    ghost use Rattle.rows.specs.Columns.{ZeroColumn};
     ghost use Rattle.rows.specs.Values.{choice, SatisfiesAll};
     ghost use Rattle.notes.specs.Notes.{NotesFit, no_codes, note_answer, note_order, after_note};
-    ghost use Rattle.notes.specs.Notes.{noted_code, noted_count};
+    ghost use Rattle.notes.specs.Notes.{noted_code, noted_count, NotesComplete};
     ghost use Rattle.notes.specs.Notes.{put_in, SatisfiedUnder};
     ghost use Rattle.notes.specs.Layers.{codes_in, below, system_below, system_noted};
 
@@ -93,17 +95,21 @@ impl<F: Field, R: Rows> Noted<F, R> {
     }
 
     /// The noted code of a minute; none where none is noted. What is noted are codes, at minutes
-    /// below the width.
+    /// below the width. Under the notes a noted minute's weight is 0 in every row.
     pub fn noted_code(&self, minute: usize) -> Option<u16>
         ensures code { result ≡ noted_code (codes_in self.now) minute }
         ensures fits { NotesFit F.ops (system_below self.now).width (codes_in self.now) }
+        ensures column { OnSome result (ZeroColumn F.ops (system_noted self.now) minute) }
     {
         self.notes.get(minute)
     }
 
-    /// How many minutes are noted.
+    /// How many minutes are noted, at most the width. Where this count and a number of columns that
+    /// determine a choice under the notes add up to the width, no other choice satisfies the rows.
     pub fn noted_count(&self) -> usize
-        ensures { result ≡ noted_count (codes_in self.now) }
+        ensures count { result ≡ noted_count (codes_in self.now) }
+        ensures at_most { result ≤ (system_below self.now).width }
+        ensures whole { NotesComplete F.ops (codes_in self.now) (system_below self.now) }
     {
         self.notes.count()
     }
