@@ -3,4 +3,4 @@ mod Counts
 mod NoNotes
 mod Readings
 mod Satisfied
-mod Changes
+mod Strikes

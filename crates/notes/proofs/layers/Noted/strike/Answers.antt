@@ -4,7 +4,7 @@ use Rattle.rows.specs.Values.{OthersSatisfied}
 use Rattle.rows.proofs.Strikes.{strike_others}
 use Rattle.notes.specs.Notes.{system_under}
 use Rattle.notes.specs.Layers.{system_noted}
-use Rattle.notes.proofs.Changes.{struck_under}
+use Rattle.notes.proofs.Strikes.{struck_under}
 use Rattle.notes.proofs.layers.Noted.strike.Goals as goal
 
 pub returns-clause-shown : goal.returns-clause-shown

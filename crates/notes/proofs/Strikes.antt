@@ -1,17 +1,11 @@
--- What the calls of a ledger do to rows under notes. Assumes nothing.
-use Rattle.std.proofs.Common.{◌≡◌, ℕ, List, [], ◌∷◌, Ok, Err, Option, Result, map, slice_set, refl, ap, ◌∙◌}
-use Rattle.std.proofs.lemmas.List.{map-set, map-append}
-use Rattle.field.specs.Operations.{Operations}
+-- What a strike does to rows under notes. Assumes nothing.
+use Rattle.std.proofs.Common.{◌≡◌, ℕ, List, [], Ok, Err, Option, Result, map, slice_set, refl, ap, ◌∙◌}
+use Rattle.std.proofs.lemmas.List.{map-set}
 use Rattle.field.specs.Laws.{Lawful}
-use Rattle.rows.specs.Systems.{Row, System, empty_row}
+use Rattle.rows.specs.Systems.{System, empty_row}
 use Rattle.rows.specs.Values.{weighted}
-use Rattle.rows.specs.Ledgers.{after_take, after_strike}
+use Rattle.rows.specs.Ledgers.{after_strike}
 use Rattle.notes.specs.Notes.{row_under, system_under}
-
-pub taken_under : {E : Type 0} (K : Operations) (codes : List (Option ℕ)) (S : System) (r : Row) (answer : Result ℕ E) → system_under K codes (after_take answer S r) ≡ after_take answer (system_under K codes S) (row_under K codes r)
-taken_under K codes S r (Ok n) =
-    ap (λ rows. record { width = S.width; rows = rows }) (map-append (row_under K codes) S.rows (r ∷ []))
-taken_under K codes S r (Err e) = refl
 
 module _ (F : Lawful) (codes : List (Option ℕ)) where
   -- no weights take nothing from a sum of 0
