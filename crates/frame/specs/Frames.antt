@@ -17,10 +17,14 @@ minute_at ts k = (slice_index_or ts k no_term).minute
 abbrev pub weight_at : List Term → ℕ → ℕ
 weight_at ts k = (slice_index_or ts k no_term).weight
 
--- the number of the first term, counted from `at`, whose minute is over 63 or below `low`, one more than the minute before
+-- the number of the first term, counted from `at`, whose minute is over 63 or below `low`, which is one more than the
+-- minute before
 abbrev pub first_minute : ℕ → ℕ → List Term → Option ℕ
 first_minute at low [] = None
-first_minute at low (t ∷ ts) = cond (nat_lt t.minute MINUTES) (cond (nat_le low t.minute) (first_minute (suc at) (suc t.minute) ts) (Some at)) (Some at)
+first_minute at low (t ∷ ts) =
+    cond (nat_lt t.minute MINUTES)
+    (cond (nat_le low t.minute) (first_minute (suc at) (suc t.minute) ts) (Some at))
+    (Some at)
 
 -- the number of the first term, counted from `at`, whose weight is 0
 abbrev pub first_weight : ℕ → List Term → Option ℕ
@@ -28,7 +32,9 @@ first_weight at ts = position_from (λ t. t.weight == 0) at ts
 
 -- the check of a frame's terms: their number, then the minutes, then the weights
 abbrev pub check : List Term → Result (Unit {0}) RefusalCase
-check ts = refuse 10 (when (length ts == 0 || nat_lt MOST_TERMS (length ts))) (refuse 11 (first_minute 0 0 ts) (refuse 12 (first_weight 0 ts) (Ok tt)))
+check ts =
+    refuse 10 (when (length ts == 0 || nat_lt MOST_TERMS (length ts)))
+    (refuse 11 (first_minute 0 0 ts) (refuse 12 (first_weight 0 ts) (Ok tt)))
 
 -- what is wrong with terms: there are none or too many
 abbrev pub WrongCount : List Term → Type 0

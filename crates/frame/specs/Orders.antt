@@ -30,7 +30,8 @@ abbrev pub Unrefused : Order → Type 0
 Unrefused nothing = ⊤
 Unrefused (rule number P later) = Nowhere P × Unrefused later
 
--- an answer that keeps the order: it refuses by a number at a place exactly where that is the first refusal, and else accepts
+-- an answer that keeps the order: it refuses by a number at a place exactly where that is the first refusal, and
+-- accepts where there is none
 pub record KeepsOrder {X : Type 0} (order : Order) (answer : Result X RefusalCase) : Type 0 where
   pub refuses : (r : RefusalCase) → (answer ≡ Err r) ↔ RefusedBy order r
   pub accepts : IsOk answer ↔ Unrefused order

@@ -6,7 +6,8 @@ use Rattle.frame.specs.declared.refusals.Refusal.TheVariants.{Disputed, MinuteBe
 use Rattle.frame.specs.declared.refusals.Layer.{Layer}
 use Rattle.frame.specs.declared.refusals.Layer.TheVariants.{Line, Frame, Block}
 
--- a refusal as the table has it: its number, and its place, which is a term's number, the offset of a field's first byte, or 0
+-- a refusal as the table has it: its number, and its place, which is a term's number, the offset of a field's first
+-- byte, or 0
 pub record RefusalCase : Type 0 where
   pub number : ℕ
   pub place : ℕ

@@ -7,7 +7,8 @@ use super::frames::Frame;
 use super::terms::Term;
 
 /// A frame's sum and its terms, in memory of its own: the first `count` of `terms`.
-/// An array and a count: with a vector of fixed capacity the type would lose `Copy`, which it promises.
+// An array and a count: with a vector of fixed capacity the type would lose `Copy`, which it
+// promises.
 #[derive(Clone, Copy)]
 pub struct FrameBuf {
     sum: u16,
@@ -19,13 +20,14 @@ pub struct FrameBuf {
     ghost frame: { FrameTerms (take count terms) } by { FrameTerms-prop (take count terms) },
 }
 
-// A copy of a frame.
+/// A copy of a frame: its sum and its terms.
 impl<'a> From<&Frame<'a>> for FrameBuf {
     ghost use Rattle.std.specs.Prelude.{◌≡◌};
     ghost use Rattle.frame.specs.Parts.{sum_of, terms_of};
     ghost use Rattle.frame.specs.Owned.{sum_in, terms_in};
 
-    ghost from_gives = { λ frame held. (sum_in held ≡ sum_of frame.now) × (terms_in held ≡ terms_of frame.now) };
+    ghost from_gives = { λ frame held.
+        (sum_in held ≡ sum_of frame.now) × (terms_in held ≡ terms_of frame.now) };
 
     fn from(frame: &Frame<'a>) -> FrameBuf {
         let mut terms = [Term::default(); MOST_TERMS];

@@ -16,7 +16,8 @@ pub const MINUTES: u16 = 64;
 fn first_minute(terms: &[Term]) -> Option<usize>
     ensures { result ≡ first_minute 0 0 terms.now }
 {
-    // In a `for`: no proof follows a closure that changes what it holds, here the lowest minute allowed.
+    // In a `for`: no proof follows a closure that changes what it holds, here the lowest minute
+    // allowed.
     let mut low = 0;
     for (i, term) in terms.iter().enumerate() {
         if term.minute >= MINUTES || term.minute < low {
@@ -35,8 +36,8 @@ fn first_weight(terms: &[Term]) -> Option<usize>
     terms.iter().position(|term| term.weight == 0)
 }
 
-/// Whether terms make a frame. Refuses no terms or over 16 (10), then the first minute that is over 63 or not over the one
-/// before (11, at its term), then the first weight of 0 (12, at its term).
+/// Whether terms make a frame. Refuses no terms or over 16 (10), then the first minute that is over
+/// 63 or not over the one before (11, at its term), then the first weight of 0 (12, at its term).
 pub fn check_terms(terms: &[Term]) -> Result<(), Refusal>
     ensures answer { numbered result ≡ check terms.now }
     ensures decides { Decides terms.now (numbered result) }

@@ -7,7 +7,8 @@ use super::refusals::Refusal;
 use super::terms::Term;
 
 /// A weighted sum of minutes. No value of this type exists whose terms the check refuses.
-/// Ghost fields and no view (`Model`): with a lifetime and a view the type would lose `Copy`, which it promises.
+// Ghost fields and no view (`Model`): with a lifetime and a view the type would lose `Copy`, which
+// it promises.
 #[derive(Clone, Copy)]
 pub struct Frame<'a> {
     sum: u16,
@@ -23,8 +24,8 @@ impl<'a> Frame<'a> {
     ghost use Rattle.frame.specs.Frames.{FrameTerms, check, Decides};
     ghost use Rattle.frame.specs.Parts.{sum_of, terms_of, FrameOf};
 
-    /// The frame of this sum and these terms; refuses what `check_terms` refuses.
-    /// No `TryFrom`: a pair would lose the names of its parts.
+    /// The frame of this sum and these terms; refuses what `check_terms` refuses (10, 11 and 12).
+    // No `TryFrom`: a pair would lose the names of its parts.
     pub fn check(sum: u16, terms: &'a [Term]) -> Result<Frame<'a>, Refusal>
         ensures answer { numbered_as (λ _. tt) result ≡ check terms.now }
         ensures frame { IfOk result (FrameOf sum terms.now) }
@@ -34,8 +35,8 @@ impl<'a> Frame<'a> {
         Ok(Frame { sum, terms })
     }
 
-    /// The frame of this sum and terms that the check lets pass.
-    /// Beside `check`, since it cannot refuse.
+    /// The frame of this sum and of terms that the check lets pass.
+    // Beside `check`, since it cannot refuse.
     pub fn new(sum: u16, terms: &'a [Term]) -> Frame<'a>
         requires { FrameTerms terms.now }
         ensures sums { sum_of result ≡ sum }

@@ -10,7 +10,8 @@ pub enum Layer {
     Block,
 }
 
-/// A refused call: one case for each number, named by what is wrong, with its place where it has one.
+/// A refused call: one case for each number, named by what is wrong, with its place where it has
+/// one.
 #[derive(Clone, Copy, PartialEq, Eq, Debug)]
 pub enum Refusal {
     /// 1: the block is disputed
@@ -48,7 +49,8 @@ pub enum Refusal {
 }
 
 impl Refusal {
-    /// Its number in the table of refusals, fixed by a rule of the project. Named: `u8::from` would not say which number.
+    /// Its number in the table of refusals, 1 to 16, fixed by a rule of the project.
+    // Named: `u8::from` would not say which number.
     pub fn number(&self) -> u8
         ensures { result ≡ refusal_number self.now }
     {
@@ -72,7 +74,8 @@ impl Refusal {
         }
     }
 
-    /// The term or byte that the refusal points at, counted from 0. By a rule of the project 0 where it points at none.
+    /// The term or byte that the refusal points at, counted from 0. By a rule of the project 0
+    /// where it points at none.
     pub fn place(&self) -> usize
         ensures { result ≡ refusal_place self.now }
     {
@@ -86,6 +89,8 @@ impl Refusal {
         }
     }
 
+    /// The part of the receiver that refuses: 13 to 15 are the line's, 10 to 12 the frame's, all
+    /// others the block's.
     pub fn layer(&self) -> Layer
         ensures { result ≡ refusal_layer self.now }
     {

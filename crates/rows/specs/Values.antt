@@ -50,7 +50,8 @@ SatisfiesAll K S x = (i : ℕ) → i < length S.rows → Satisfies K (row_at S i
 
 -- each row but row i is satisfied by the same choices in the one system as in the other
 abbrev pub OthersSatisfied : System → System → ℕ → Type 0
-OthersSatisfied S T i = (K : Operations) (x : ℕ → ℕ) (k : ℕ) → k ≢ i → Satisfies K (row_at S k) x ↔ Satisfies K (row_at T k) x
+OthersSatisfied S T i =
+    (K : Operations) (x : ℕ → ℕ) (k : ℕ) → k ≢ i → Satisfies K (row_at S k) x ↔ Satisfies K (row_at T k) x
 
 -- a row's value is a code, and 0 just where the row is satisfied
 pub record ValueTells (K : Operations) (r : Row) (x : ℕ → ℕ) : Type 0 where

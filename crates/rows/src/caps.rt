@@ -3,10 +3,12 @@ ghost use Rattle.std.specs.Prelude.{◌≡◌};
 ghost use Rattle.frame.specs.Refusals.{numbered};
 ghost use Rattle.frame.specs.Orders.{KeepsOrder};
 ghost use Rattle.frame.specs.Parts.{terms_of};
-ghost use Rattle.rows.specs.Ledgers.{row_of, take_answer, take_order, after_take, strike_answer, after_strike, cleared};
+ghost use Rattle.rows.specs.Ledgers.{row_of, take_answer, take_order, after_take};
+ghost use Rattle.rows.specs.Ledgers.{strike_answer, after_strike, cleared};
 ghost use Rattle.rows.specs.Sizes.{size_number};
 ghost use Rattle.rows.specs.Values.{OthersSatisfied};
-ghost use Rattle.rows.specs.Caps.{own_number, ledger_below, cap_system, cap_limit, two_caps_system, two_caps_limit, NestedCapsLaw};
+ghost use Rattle.rows.specs.Caps.{own_number, ledger_below, cap_system, cap_limit};
+ghost use Rattle.rows.specs.Caps.{two_caps_system, two_caps_limit, NestedCapsLaw};
 ghost use Rattle.rows.specs.Lemmas.Limits.{smaller_limit};
 
 use crate::ledgers::{Ledger, admit};
@@ -24,7 +26,7 @@ pub struct Cap<L> {
 }
 
 impl<L> Cap<L> {
-    /// A cap of this number over a ledger, whose rows stay.
+    /// A cap of this number, 1 to 96, over a ledger, whose rows stay.
     pub fn new(own: Limit, below: L) -> Cap<L>
         ensures own { own_number result ≡ size_number MOST_ROWS own }
         ensures below { ledger_below result ≡ below }
@@ -76,7 +78,8 @@ impl<L: Ledger> Rows for Cap<L> {
 impl<L: Ledger> Ledger for Cap<L> {
     ghost most = { cap_limit L.most };
 
-    ghost limited = { λ cap. smaller_limit cap.own.number (L.most cap.below) cap.own.some (L.limited cap.below) };
+    ghost limited = { λ cap.
+        smaller_limit cap.own.number (L.most cap.below) cap.own.some (L.limited cap.below) };
 
     fn limit(&self) -> usize {
         self.own.number().min(self.below.limit())
@@ -84,9 +87,14 @@ impl<L: Ledger> Ledger for Cap<L> {
 
     // Beside what every ledger promises, no call changes the cap's own number.
     fn take(&mut self, frame: &Frame<'_>) -> Result<usize, Refusal>
-        ensures answer { numbered result ≡ take_answer (cap_system L.system self.old) (cap_limit L.most self.old) (row_of frame.now) }
-        ensures order { KeepsOrder (take_order (cap_system L.system self.old) (cap_limit L.most self.old) (terms_of frame.now)) (numbered result) }
-        ensures after { cap_system L.system self.new ≡ after_take result (cap_system L.system self.old) (row_of frame.now) }
+        ensures answer { let before = cap_system L.system self.old in
+            let limit = cap_limit L.most self.old in
+            numbered result ≡ take_answer before limit (row_of frame.now) }
+        ensures order { let before = cap_system L.system self.old in
+            let limit = cap_limit L.most self.old in
+            KeepsOrder (take_order before limit (terms_of frame.now)) (numbered result) }
+        ensures after { cap_system L.system self.new
+            ≡ after_take result (cap_system L.system self.old) (row_of frame.now) }
         ensures kept { cap_limit L.most self.new ≡ cap_limit L.most self.old }
         ensures own { own_number self.new ≡ own_number self.old }
     {
@@ -96,8 +104,10 @@ impl<L: Ledger> Ledger for Cap<L> {
 
     fn strike(&mut self, row: usize) -> Result<(), Refusal>
         ensures answer { numbered result ≡ strike_answer (cap_system L.system self.old) row }
-        ensures after { cap_system L.system self.new ≡ after_strike result (cap_system L.system self.old) row }
-        ensures others { OthersSatisfied (cap_system L.system self.old) (cap_system L.system self.new) row }
+        ensures after { cap_system L.system self.new
+            ≡ after_strike result (cap_system L.system self.old) row }
+        ensures others { OthersSatisfied (cap_system L.system self.old)
+            (cap_system L.system self.new) row }
         ensures kept { cap_limit L.most self.new ≡ cap_limit L.most self.old }
         ensures own { own_number self.new ≡ own_number self.old }
     {
@@ -113,20 +123,25 @@ impl<L: Ledger> Ledger for Cap<L> {
     }
 }
 
-/// Takes a frame into a ledger under two caps, as every ledger takes one.
+/// Takes a frame into a ledger under two caps, as every ledger takes one: the smallest of the three
+/// limits counts. Returns the row's number; refuses as `take` does (2, then 5).
 pub fn take_under_caps<L: Ledger>(
     caps: &mut Cap<Cap<L>>,
     frame: &Frame<'_>,
 ) -> Result<usize, Refusal>
-    ensures answer { numbered result ≡ take_answer (two_caps_system L.system caps.old) (two_caps_limit L.most caps.old) (row_of frame.now) }
-    ensures after { two_caps_system L.system caps.new ≡ after_take result (two_caps_system L.system caps.old) (row_of frame.now) }
+    ensures answer { let before = two_caps_system L.system caps.old in
+        let limit = two_caps_limit L.most caps.old in
+        numbered result ≡ take_answer before limit (row_of frame.now) }
+    ensures after { two_caps_system L.system caps.new
+        ≡ after_take result (two_caps_system L.system caps.old) (row_of frame.now) }
     ensures kept { two_caps_limit L.most caps.new ≡ two_caps_limit L.most caps.old }
     ensures own { own_number caps.new ≡ own_number caps.old }
 {
     caps.take(frame)
 }
 
-/// However many caps stand over a ledger: they mean what it means, and the smallest limit counts.
+/// A law: however many caps stand over a ledger, they mean what it means, and the smallest limit
+/// counts. The call does nothing.
 pub fn nested_caps_mean_their_base<L: Ledger>()
     ensures { NestedCapsLaw L.system L.most }
 {}

@@ -3,7 +3,9 @@ ghost use Rattle.std.specs.Prelude.{◌≡◌, ℕ};
 ghost use Rattle.frame.specs.Refusals.{numbered};
 ghost use Rattle.frame.specs.Orders.{KeepsOrder};
 ghost use Rattle.frame.specs.Parts.{terms_of};
-ghost use Rattle.rows.specs.Ledgers.{LimitInRange, row_of, first_beyond, admitted, take_answer, take_order, after_take, strike_answer, after_strike, cleared};
+ghost use Rattle.rows.specs.Ledgers.{LimitInRange, row_of, first_beyond, admitted};
+ghost use Rattle.rows.specs.Ledgers.{take_answer, take_order, after_take};
+ghost use Rattle.rows.specs.Ledgers.{strike_answer, after_strike, cleared};
 ghost use Rattle.rows.specs.Values.{OthersSatisfied};
 
 use crate::reading::Rows;
@@ -18,16 +20,22 @@ pub trait Ledger: Rows {
     fn limit(&self) -> usize
         ensures { result ≡ most self.now };
 
-    /// Appends the frame as the last row and returns its number. Refuses the first term whose minute is not below the width
-    /// (2, at that term), then a frame where there are limit rows or more (5); a refusal leaves the rows as they were.
+    /// Appends the frame as the last row and returns its number. Refuses the first term whose
+    /// minute is not below the width (2, at that term), then a frame where there are limit rows or
+    /// more (5); a refusal leaves the rows as they were.
     fn take(&mut self, frame: &Frame<'_>) -> Result<usize, Refusal>
-        ensures answer { numbered result ≡ take_answer (Self.system self.old) (most self.old) (row_of frame.now) }
-        ensures order { KeepsOrder (take_order (Self.system self.old) (most self.old) (terms_of frame.now)) (numbered result) }
-        ensures after { Self.system self.new ≡ after_take result (Self.system self.old) (row_of frame.now) }
+        ensures answer { numbered result
+            ≡ take_answer (Self.system self.old) (most self.old) (row_of frame.now) }
+        ensures order { KeepsOrder
+            (take_order (Self.system self.old) (most self.old) (terms_of frame.now))
+            (numbered result) }
+        ensures after { Self.system self.new
+            ≡ after_take result (Self.system self.old) (row_of frame.now) }
         ensures kept { most self.new ≡ most self.old };
 
-    /// Makes a row empty, with no terms and sum 0. The other rows keep their numbers, and each choice of minutes satisfies
-    /// one of them just where it did. Refuses a row that does not exist (9), and then leaves the rows as they were.
+    /// Makes a row empty, with no terms and sum 0. The other rows keep their numbers, and each
+    /// choice of minutes satisfies one of them just where it did. Refuses a row that does not
+    /// exist (9), and then leaves the rows as they were.
     fn strike(&mut self, row: usize) -> Result<(), Refusal>
         ensures answer { numbered result ≡ strike_answer (Self.system self.old) row }
         ensures after { Self.system self.new ≡ after_strike result (Self.system self.old) row }
@@ -42,7 +50,8 @@ pub trait Ledger: Rows {
     ghost limited: { (ledger : Self) → LimitInRange (most ledger) };
 }
 
-/// The first term whose minute is not below the width; none where all are.
+/// The number of the first term whose minute is not below the width, counted from 0; none where all
+/// are.
 pub fn first_beyond(frame: &Frame<'_>, width: usize) -> Option<usize>
     ensures { result ≡ first_beyond width 0 (terms_of frame.now) }
 {
@@ -52,7 +61,8 @@ pub fn first_beyond(frame: &Frame<'_>, width: usize) -> Option<usize>
         .position(|term| width <= usize::from(term.minute))
 }
 
-/// The number that a frame's row gets in a ledger of this width and limit that holds `rows` rows. Refuses as `take` does.
+/// The number that a frame's row gets in a ledger of this width and limit that holds `rows` rows.
+/// Refuses as `take` does (2, at the first term beyond the width, then 5).
 pub fn admit(frame: &Frame<'_>, width: usize, rows: usize, limit: usize) -> Result<usize, Refusal>
     ensures { numbered result ≡ admitted (first_beyond width 0 (terms_of frame.now)) rows limit }
 {

@@ -4,8 +4,8 @@ ghost use Rattle.rows.specs.Systems.{System, WellFormed, term_count_of, term_of,
 
 use frame::terms::Term;
 
-/// Rows: a linear system for reading. A row is an equation, the weighted sum of some minutes. Rows and terms are counted
-/// from 0; what does not exist is none. Reading changes nothing.
+/// Rows: a linear system for reading. A row is an equation, the weighted sum of some minutes. Rows
+/// and terms are counted from 0; what does not exist is none. Reading changes nothing.
 pub trait Rows {
     ghost system: { Self → System };
 

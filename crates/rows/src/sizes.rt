@@ -32,7 +32,8 @@ impl<const MOST: usize> TryFrom<usize> for Size<MOST> {
 
     type Error = Refusal;
 
-    ghost try_from_gives = { λ number size. numbered_as (size_number MOST) size ≡ size_answer MOST number };
+    ghost try_from_gives = { λ number size.
+        numbered_as (size_number MOST) size ≡ size_answer MOST number };
 
     fn try_from(number: usize) -> Result<Size<MOST>, Refusal> {
         if (1..=MOST).contains(&number) {

@@ -15,7 +15,8 @@ use frame::terms::Term;
 type Slot = Option<FrameBuf>;
 
 /// A table: a ledger of up to 96 rows in memory of its own. Its rows are the first `count` slots.
-// An array and a count: with a vector of fixed capacity the type would lose `Copy`, which it promises.
+// An array and a count: with a vector of fixed capacity the type would lose `Copy`, which it
+// promises.
 #[derive(Clone, Copy)]
 pub struct Table {
     width: Width,
@@ -23,7 +24,8 @@ pub struct Table {
     slots: [Slot; MOST_ROWS],
     ghost room: { length slots ≡ 96 },
     ghost few: { count ≤ 96 },
-    ghost below: { (i k : ℕ) → i < count → k < length (slot_terms slots i) → minute_at (slot_terms slots i) k < width.number },
+    ghost below: { (i k : ℕ) → i < count → k < length (slot_terms slots i)
+        → minute_at (slot_terms slots i) k < width.number },
 }
 
 impl Table {
@@ -46,7 +48,8 @@ impl Table {
 
     // A row's slot; none where there is no such row.
     fn slot(&self, row: usize) -> Option<&Slot>
-        ensures { option_map (λ slot. slot.now) result ≡ slice_get (take self.now.count self.now.slots) row }
+        ensures { option_map (λ slot. slot.now) result
+            ≡ slice_get (take self.now.count self.now.slots) row }
     {
         self.slots[..self.count].get(row)
     }
@@ -110,7 +113,8 @@ impl Ledger for Table {
     }
 
     fn strike(&mut self, row: usize) -> Result<(), Refusal> {
-        // By index: a slot that `get_mut` lends out of a struct with ghost fields is not covered by the check.
+        // By index: a slot that `get_mut` lends out of a struct with ghost fields is not covered by
+        // the check.
         if row >= self.count {
             return Err(Refusal::NoSuchRow);
         }

@@ -7,7 +7,8 @@ use crate::reading::Rows;
 use crate::terms::terms;
 use field::fields::{Field, code_of};
 
-/// A[i,c]: the weight at a minute in a row as a code, 0 without such a term; none where there is no such row or minute.
+/// A[i,c]: the weight at a minute in a row as a code, 0 without such a term; none where there is no
+/// such row or minute.
 pub fn entry<F: Field, R: Rows>(rows: &R, row: usize, minute: usize) -> Option<u16>
     ensures { result ≡ entry_of F.ops (R.system rows.now) row minute }
 {
@@ -29,7 +30,7 @@ pub trait Choice {
         ensures { result ≡ codes self.now minute };
 }
 
-// The numbers of a slice; past its end they are 0.
+/// The numbers of a slice; past its end they are 0.
 impl Choice for &[u16] {
     ghost codes = { λ x. choice x.now };
 
@@ -38,8 +39,9 @@ impl Choice for &[u16] {
     }
 }
 
-/// A row's sum less its weights times the numbers that are chosen at their minutes, a code, and 0 just where the choice
-/// satisfies the row; none where there is no such row. Each term is read once.
+/// A row's sum less its weights times the numbers that are chosen at their minutes, a code, and 0
+/// just where the choice satisfies the row; none where there is no such row. Each term is read
+/// once.
 pub fn row_value<F: Field, R: Rows, X: Choice>(rows: &R, row: usize, x: &X) -> Option<u16>
     ensures value { result ≡ row_value_of F.ops (R.system rows.now) row (X.codes x.now) }
     ensures tells { ValueTells F.ops (row_at (R.system rows.now) row) (X.codes x.now) }
