@@ -132,6 +132,9 @@ pub fn take_under_caps<L: Ledger>(
     ensures answer { let before = two_caps_system L.system caps.old in
         let limit = two_caps_limit L.most caps.old in
         numbered result ≡ take_answer before limit (row_of frame.now) }
+    ensures order { let before = two_caps_system L.system caps.old in
+        let limit = two_caps_limit L.most caps.old in
+        KeepsOrder (take_order before limit (terms_of frame.now)) (numbered result) }
     ensures after { two_caps_system L.system caps.new
         ≡ after_take result (two_caps_system L.system caps.old) (row_of frame.now) }
     ensures kept { two_caps_limit L.most caps.new ≡ two_caps_limit L.most caps.old }
