@@ -8,6 +8,7 @@ mod row_tests;
 pub mod sevens;
 #[cfg(test)]
 mod solver_tests;
+pub mod whole;
 
 #[cfg(test)]
 mod tests {

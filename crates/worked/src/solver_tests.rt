@@ -2,6 +2,7 @@
 use crate::row_tests::{table, take};
 use crate::sevens::Seven;
 use crate::tests::term;
+use crate::whole::settle_noted;
 use field::fields::Field;
 use field::octets::Octets;
 use field::primes::Prime;
@@ -12,8 +13,8 @@ use reports::outcomes::OutcomeText;
 use reports::reports::report_on;
 use rows::reading::Rows;
 use rows::tables::Table;
-use solver::findings::Findings;
 use solver::faults::Fault;
+use solver::findings::Findings;
 use solver::outcomes::{Count, Extent, Failure, Outcome};
 use solver::profiles::profile;
 use solver::questions::{Question, Side};
@@ -34,8 +35,8 @@ impl<F: Field> Scout<F> for FaultyScout {
     ghost use Rattle.solver.specs.Questions.{first_place};
 
     ghost meaning = { record {
-        answer = λ scout S q. cond (scout.true_answers == 0) scout.answer (first_place F.ops S q);
-        after = λ scout S q. record { true_answers = scout.true_answers - 1; answer = scout.answer }
+      answer = λ scout S q. cond (scout.true_answers == 0) scout.answer (first_place F.ops S q);
+      after = λ scout S q. record { true_answers = scout.true_answers - 1; answer = scout.answer };
     } };
 
     fn ask<R: Rows>(&mut self, rows: &R, question: Question<'_>) -> Option<usize> {
@@ -194,6 +195,11 @@ fn an_hour_that_is_all_notes_settles(rt: HostRuntime) -> Result<(), Fail> {
     assert_eq!(rt; x, [5, 7]);
     let report = report_on::<Prime, Noted<Prime, Table>>(rt.alloc(), &noted, noted.noted_count())?;
     assert!(rt; report.as_bytes() == b"profile,0\nsolved,whole,0,1,0,0\n".as_slice());
+    let mut work = [0; 8192];
+    assert_eq!(rt;
+        settle_noted(&noted, &mut Scan, &mut work, &mut used_record()),
+        Ok(Some(Extent::Whole))
+    );
     let other = all_noted(&rt, 18)?;
     settles::<Prime, Noted<Prime, Table>>(&rt, &other, contradiction(0, 2), &[], &[1]);
     Ok(())
