@@ -1,5 +1,6 @@
 //! A frame that owns its terms.
 ghost use Rattle.std.specs.Prelude.{◌≡◌, ◌<◌, ◌≤◌, length, take};
+ghost use Rattle.frame.specs.declared.checks.TheConstants.{MOST_TERMS};
 ghost use Rattle.frame.specs.Frames.{FrameTerms, FrameTerms-prop};
 
 use super::checks::MOST_TERMS;
@@ -15,8 +16,8 @@ pub struct FrameBuf {
     count: usize,
     terms: [Term; MOST_TERMS],
     ghost word: { sum < 65536 },
-    ghost room: { length terms ≡ 16 },
-    ghost few: { count ≤ 16 },
+    ghost room: { length terms ≡ MOST_TERMS },
+    ghost few: { count ≤ MOST_TERMS },
     ghost frame: { FrameTerms (take count terms) } by { FrameTerms-prop (take count terms) },
 }
 

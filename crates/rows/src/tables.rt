@@ -1,6 +1,7 @@
 //! A table.
 ghost use Rattle.std.specs.Prelude.{◌≡◌, ℕ, ◌<◌, ◌≤◌, length};
 ghost use Rattle.frame.specs.Frames.{minute_at};
+ghost use Rattle.rows.specs.declared.sizes.TheConstants.{MOST_ROWS};
 ghost use Rattle.rows.specs.Slots.{slot_terms};
 
 use crate::ledgers::{Ledger, admit};
@@ -22,8 +23,8 @@ pub struct Table {
     width: Width,
     count: usize,
     slots: [Slot; MOST_ROWS],
-    ghost room: { length slots ≡ 96 },
-    ghost few: { count ≤ 96 },
+    ghost room: { length slots ≡ MOST_ROWS },
+    ghost few: { count ≤ MOST_ROWS },
     ghost below: { (i k : ℕ) → i < count → k < length (slot_terms slots i)
         → minute_at (slot_terms slots i) k < width.number },
 }
@@ -97,7 +98,7 @@ impl Rows for Table {
 impl Ledger for Table {
     ghost use Rattle.rows.specs.Lemmas.SlotRows.{table_limited};
 
-    ghost most = { λ _. 96 };
+    ghost most = { λ _. MOST_ROWS };
 
     ghost limited = { table_limited };
 
