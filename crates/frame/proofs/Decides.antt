@@ -157,10 +157,12 @@ module _ (ts : List Term) where
         ),
       ))
 
+  pub in_order : (answer : Result (Unit {0}) RefusalCase) → answer ≡ check ts → KeepsOrder (frame_order ts) answer
+  in_order answer is = subst (KeepsOrder (frame_order ts)) (sym is) (check_in_order ts)
+
   pub decided : (answer : Result (Unit {0}) RefusalCase) → answer ≡ check ts → (answer ≡ Ok tt → (k : ℕ) → k < length ts → weight_at ts k < 65536) → Decides ts answer
   decided answer is words =
       record {
-        in_order = subst (KeepsOrder (frame_order ts)) (sym is) (check_in_order ts);
         sound = λ e. makes_frame (words e) (sym is ∙ e);
         complete = λ f. is ∙ frame_checks f;
       }

@@ -6,7 +6,7 @@ use Rattle.std.specs.Result.{IsOk}
 use Rattle.std.proofs.lemmas.Bool.{cases_lt}
 use Rattle.frame.proofs.Apart.{err_ok}
 use Rattle.frame.specs.Refusals.{RefusalCase, refused}
-use Rattle.frame.specs.Orders.{Order, nothing, rule, First, Nowhere, AtStart, RefusedBy, KeepsOrder, refuse, when}
+use Rattle.frame.specs.Orders.{Order, no_rule, rule, First, Nowhere, AtStart, RefusedBy, KeepsOrder, refuse, when}
 
 -- found is the first place of P, or there is none
 abbrev pub Finds : (ℕ → Type 0) → Option ℕ → Type 0
@@ -29,7 +29,7 @@ first_unique P j k f g =
     ]
 
 -- nothing is refused
-pub accepted : {X : Type 0} (x : X) → KeepsOrder nothing (Ok x)
+pub accepted : {X : Type 0} (x : X) → KeepsOrder no_rule (Ok x)
 accepted {X = X} x =
     record {
       refuses = λ r. (λ e. err_ok {X = X} r x (sym e), λ none. absurd none);

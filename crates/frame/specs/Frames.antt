@@ -5,7 +5,7 @@ use Rattle.std.proofs.Props.{props}
 use Rattle.frame.specs.declared.terms.Term.{Term}
 use Rattle.frame.specs.declared.checks.TheConstants.{MOST_TERMS, MINUTES}
 use Rattle.frame.specs.Refusals.{RefusalCase}
-use Rattle.frame.specs.Orders.{Order, nothing, rule, AtStart, KeepsOrder, refuse, when}
+use Rattle.frame.specs.Orders.{Order, no_rule, rule, AtStart, KeepsOrder, refuse, when}
 
 -- what is read past the last term
 abbrev pub no_term : Term
@@ -55,7 +55,7 @@ WrongWeight ts k = (k < length ts) × (weight_at ts k ≡ 0)
 
 -- the order in which a frame's terms are refused: 10 for their number, then 11 for a minute, then 12 for a weight
 abbrev pub frame_order : List Term → Order
-frame_order ts = rule 10 (AtStart (WrongCount ts)) (rule 11 (WrongMinute ts) (rule 12 (WrongWeight ts) nothing))
+frame_order ts = rule 10 (AtStart (WrongCount ts)) (rule 11 (WrongMinute ts) (rule 12 (WrongWeight ts) no_rule))
 
 -- what a frame's terms are
 pub record FrameTerms (ts : List Term) : Type 0 where
@@ -70,8 +70,7 @@ pub record FrameTerms (ts : List Term) : Type 0 where
 pub FrameTerms-prop : (ts : List Term) → IsProp (FrameTerms ts)
 FrameTerms-prop ts = Prim.hlevel props
 
--- what a check's answer says: it refuses in that order, and refuses nothing just where the terms make a frame
+-- a check's answer refuses nothing just where the terms make a frame
 pub record Decides (ts : List Term) (answer : Result (Unit {0}) RefusalCase) : Type 0 where
-  pub in_order : KeepsOrder (frame_order ts) answer
   pub sound : answer ≡ Ok tt → FrameTerms ts
   pub complete : FrameTerms ts → answer ≡ Ok tt

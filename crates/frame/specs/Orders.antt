@@ -4,7 +4,7 @@ use Rattle.frame.specs.Refusals.{RefusalCase, refused}
 
 -- what is refused, the earlier first: by which number, and at which places
 pub data Order : Type 1 where
-  nothing : Order
+  no_rule : Order
   rule : ℕ → (ℕ → Type 0) → Order → Order
 
 -- the first place where P holds
@@ -22,12 +22,12 @@ AtStart P k = (k ≡ 0) × P
 
 -- refused by this number at this place: no earlier refusal of the order applies, and the place is the first of its kind
 abbrev pub RefusedBy : Order → RefusalCase → Type 0
-RefusedBy nothing r = ⊥
+RefusedBy no_rule r = ⊥
 RefusedBy (rule number P later) r = ((r.number ≡ number) × First P r.place) ⊎ (Nowhere P × RefusedBy later r)
 
 -- no refusal of the order applies
 abbrev pub Unrefused : Order → Type 0
-Unrefused nothing = ⊤
+Unrefused no_rule = ⊤
 Unrefused (rule number P later) = Nowhere P × Unrefused later
 
 -- an answer that keeps the order: it refuses by a number at a place exactly where that is the first refusal, and

@@ -41,6 +41,10 @@ numbered_as f = result_map_both f refusal_case
 abbrev pub numbered : {X : Type 0} → Result X Refusal → Result X RefusalCase
 numbered = numbered_as (λ x. x)
 
+-- the same, without what is accepted
+abbrev pub refusal_only : {X : Type 0} → Result X Refusal → Result (Unit {0}) RefusalCase
+refusal_only = numbered_as (λ _. tt)
+
 abbrev pub refusal_number : Refusal → ℕ
 refusal_number r = (refusal_case r).number
 

@@ -1,6 +1,8 @@
 //! The check of terms that comes before a frame is made.
 ghost use Rattle.std.specs.Prelude.{◌≡◌, ℕ, ◌<◌, length, None};
-ghost use Rattle.frame.specs.Frames.{weight_at, first_minute, first_weight, check, Decides};
+ghost use Rattle.frame.specs.Frames.{weight_at, first_minute, first_weight, check};
+ghost use Rattle.frame.specs.Frames.{frame_order, Decides};
+ghost use Rattle.frame.specs.Orders.{KeepsOrder};
 ghost use Rattle.frame.specs.Refusals.{numbered};
 
 use super::refusals::Refusal;
@@ -40,6 +42,7 @@ fn first_weight(terms: &[Term]) -> Option<usize>
 /// 63 or not over the one before (11, at its term), then the first weight of 0 (12, at its term).
 pub fn check_terms(terms: &[Term]) -> Result<(), Refusal>
     ensures answer { numbered result ≡ check terms.now }
+    ensures order { KeepsOrder (frame_order terms.now) (numbered result) }
     ensures decides { Decides terms.now (numbered result) }
 {
     if terms.is_empty() || terms.len() > MOST_TERMS {

@@ -20,16 +20,18 @@ pub struct Frame<'a> {
 impl<'a> Frame<'a> {
     ghost use Rattle.std.specs.Prelude.{◌≡◌, length, IfOk};
     ghost use Rattle.std.specs.List.{slice_get};
-    ghost use Rattle.frame.specs.Refusals.{numbered_as};
-    ghost use Rattle.frame.specs.Frames.{FrameTerms, check, Decides};
+    ghost use Rattle.frame.specs.Refusals.{refusal_only};
+    ghost use Rattle.frame.specs.Orders.{KeepsOrder};
+    ghost use Rattle.frame.specs.Frames.{FrameTerms, frame_order, check, Decides};
     ghost use Rattle.frame.specs.Parts.{sum_of, terms_of, FrameOf};
 
     /// The frame of this sum and these terms; refuses what `check_terms` refuses (10, 11 and 12).
     // No `TryFrom`: a pair would lose the names of its parts.
     pub fn check(sum: u16, terms: &'a [Term]) -> Result<Frame<'a>, Refusal>
-        ensures answer { numbered_as (λ _. tt) result ≡ check terms.now }
+        ensures answer { refusal_only result ≡ check terms.now }
+        ensures order { KeepsOrder (frame_order terms.now) (refusal_only result) }
+        ensures decides { Decides terms.now (refusal_only result) }
         ensures frame { IfOk result (FrameOf sum terms.now) }
-        ensures decides { Decides terms.now (numbered_as (λ _. tt) result) }
     {
         check_terms(terms)?;
         Ok(Frame { sum, terms })

@@ -1,6 +1,6 @@
 //! What the receiver refuses, and the number, place and layer that it names then.
 ghost use Rattle.std.specs.Prelude.{◌≡◌};
-ghost use Rattle.frame.specs.Refusals.{refusal_number, refusal_place, refusal_layer};
+ghost use Rattle.frame.specs.Refusals.{refusal_case, refusal_number, refusal_place, refusal_layer};
 
 /// Which part of the receiver refuses: the line, the frame in it, or what stands behind.
 #[derive(Clone, Copy, PartialEq, Eq, Debug)]
@@ -101,3 +101,8 @@ impl Refusal {
         }
     }
 }
+
+/// A law: no two refusals have the same number and place. The call does nothing.
+pub fn refusals_are_told_apart()
+    ensures { (a b : Refusal) → refusal_case a ≡ refusal_case b → a ≡ b }
+{}

@@ -7,7 +7,7 @@ use Rattle.std.proofs.Props.{props}
 use Rattle.field.specs.Operations.{Operations}
 use Rattle.frame.specs.declared.terms.Term.{Term}
 use Rattle.frame.specs.Refusals.{RefusalCase}
-use Rattle.frame.specs.Orders.{Order, nothing, rule, AtStart, refuse, when}
+use Rattle.frame.specs.Orders.{Order, no_rule, rule, AtStart, refuse, when}
 use Rattle.rows.specs.declared.sizes.TheConstants.{MOST_MINUTES}
 use Rattle.rows.specs.Systems.{Row, System}
 use Rattle.rows.specs.Values.{SatisfiesAll, row_value}
@@ -58,7 +58,7 @@ note_answer K m codes c code =
 abbrev pub note_order : Operations → ℕ → List (Option ℕ) → ℕ → ℕ → Order
 note_order K m codes c code =
     rule 2 (AtStart (m ≤ c))
-    (rule 3 (AtStart (K.q ≤ code)) (rule 4 (AtStart (IsSome (noted_code codes c))) nothing))
+    (rule 3 (AtStart (K.q ≤ code)) (rule 4 (AtStart (IsSome (noted_code codes c))) no_rule))
 
 -- what a note leaves, by its answer
 abbrev pub after_note :

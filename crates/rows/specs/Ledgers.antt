@@ -6,7 +6,7 @@ use Rattle.frame.specs.declared.frames.Frame.{Frame}
 use Rattle.frame.specs.Frames.{minute_at}
 use Rattle.frame.specs.Parts.{sum_of, terms_of}
 use Rattle.frame.specs.Refusals.{RefusalCase}
-use Rattle.frame.specs.Orders.{Order, nothing, rule, AtStart, refuse, when}
+use Rattle.frame.specs.Orders.{Order, no_rule, rule, AtStart, refuse, when}
 use Rattle.rows.specs.declared.sizes.TheConstants.{MOST_ROWS}
 use Rattle.rows.specs.Systems.{Row, System, empty_row}
 
@@ -31,7 +31,7 @@ BeyondWidth S ts k = (k < length ts) × (S.width ≤ minute_at ts k)
 
 -- the order in which take refuses: 2 for a minute beyond the width, then 5 for a full ledger
 abbrev pub take_order : System → ℕ → List Term → Order
-take_order S limit ts = rule 2 (BeyondWidth S ts) (rule 5 (AtStart (limit ≤ length S.rows)) nothing)
+take_order S limit ts = rule 2 (BeyondWidth S ts) (rule 5 (AtStart (limit ≤ length S.rows)) no_rule)
 
 abbrev pub appended : System → Row → System
 appended S r = record { width = S.width; rows = S.rows ++ (r ∷ []) }
