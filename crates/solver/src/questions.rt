@@ -2,7 +2,8 @@
 ghost use Rattle.std.specs.Prelude.{◌≡◌, ℕ, ◌<◌, slice_index};
 ghost use Rattle.rows.specs.Values.{choice, column_value};
 ghost use Rattle.solver.specs.Slices.{IsVector};
-ghost use Rattle.solver.specs.Questions.{about_rows, about_columns, asked, side, value_of, first_place, TrueAnswer};
+ghost use Rattle.solver.specs.Questions.{about_rows, about_columns, asked, side};
+ghost use Rattle.solver.specs.Questions.{value_of, first_place, TrueAnswer};
 
 use crate::vectors::{add_row, entry_or_zero, zeros};
 use field::fields::Field;

@@ -1,5 +1,6 @@
 //! The run of a settle.
-ghost use Rattle.std.specs.Prelude.{◌≡◌, ◌≢◌, ℕ, ◌+◌, ◌<◌, List, Option, length, Some, None, IfOk, OnErr};
+ghost use Rattle.std.specs.Prelude.{◌≡◌, ◌≢◌, ℕ, ◌+◌, ◌<◌, List, length};
+ghost use Rattle.std.specs.Prelude.{Option, Some, None, IfOk, OnErr};
 ghost use Rattle.frame.specs.Refusals.{numbered_as};
 ghost use Rattle.rows.specs.Values.{entry};
 ghost use Rattle.algebra.specs.Places.{Outside};
