@@ -38,7 +38,7 @@ module _ (F : Lawful) (n m : ℕ) (A : ℕ → ℕ → ℕ) where
         }
 
   module _ (S : Pivots) (E : Elimination F.ops m A n S) where
-    -- the pivot rows of an elimination are the profile of the rows it has looked at
+    -- the pivot rows of an elimination are the profile of its rows
     pub pivot_rows-RankProfile : RankProfile F.ops n m A (pivot_rows S)
     pivot_rows-RankProfile =
         record {

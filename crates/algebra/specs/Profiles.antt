@@ -35,7 +35,7 @@ pub record LeastLongest (K : Operations) (n m : ℕ) (A : ℕ → ℕ → ℕ) (
 abbrev pub fresh_column : Operations → ℕ → (ℕ → ℕ → ℕ) → Pivots → ℕ → Option ℕ
 fresh_column K m A S i = first_from (λ j. not (schur K A S i j == 0)) m 0
 
--- row i looked at: a pivot more at that column, or nothing new
+-- the elimination of row i: a pivot more at that column, or nothing new
 unfoldable pub with_row : Operations → ℕ → (ℕ → ℕ → ℕ) → Pivots → ℕ → Pivots
 with_row K m A S i = elim (fresh_column K m A S i) [ None ↦ S | Some j ↦ grow K A S i j ]
 
@@ -44,7 +44,7 @@ unfoldable pub eliminate : Operations → ℕ → (ℕ → ℕ → ℕ) → ℕ 
 eliminate K m A zero = no_pivots
 eliminate K m A (suc i) = with_row K m A (eliminate K m A i) i
 
--- what an elimination keeps, when it has looked at the first i rows: each is a pivot row or a combination of the rows before it
+-- what an elimination keeps, after the first i rows: each is a pivot row or a combination of the rows before it
 pub record Elimination (K : Operations) (m : ℕ) (A : ℕ → ℕ → ℕ) (i : ℕ) (S : Pivots) : Type 0 where
   pub pivots : PivotsOf K i m A S
   pub rising : (k l : ℕ) → k < l → l < S.count → S.row k < S.row l

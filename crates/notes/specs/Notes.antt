@@ -83,14 +83,14 @@ abbrev pub SatisfiedUnder : Operations → List (Option ℕ) → System → (ℕ
 SatisfiedUnder K codes S x =
     SatisfiesAll K (system_under K codes S) x ↔ SatisfiesAll K S (put_in codes x)
 
--- a choice of minutes has the noted codes at their minutes
-abbrev pub HasNotes : List (Option ℕ) → (ℕ → ℕ) → Type 0
-HasNotes codes y = (c code : ℕ) → noted_code codes c ≡ Some code → y c ≡ code
+-- a choice of minutes, read as codes, has the noted codes at their minutes
+abbrev pub HasNotes : Operations → List (Option ℕ) → (ℕ → ℕ) → Type 0
+HasNotes K codes y = (c code : ℕ) → noted_code codes c ≡ Some code → y c % K.q ≡ code
 
 -- each choice that satisfies the rows and has the noted codes is, read as codes, x with them put in
 abbrev pub OnlyChoice : Operations → List (Option ℕ) → System → (ℕ → ℕ) → Type 0
 OnlyChoice K codes S x =
-    (y : ℕ → ℕ) → SatisfiesAll K S y → HasNotes codes y →
+    (y : ℕ → ℕ) → SatisfiesAll K S y → HasNotes K codes y →
     (c : ℕ) → c < S.width → y c % K.q ≡ put_in codes x c
 
 -- columns that determine x under the notes leave no other choice, once they and the notes are as

@@ -23,6 +23,10 @@ empty_row = record { sum = 0; terms = [] }
 abbrev pub row_at : System → ℕ → Row
 row_at S i = slice_index_or S.rows i empty_row
 
+-- the sums
+abbrev pub sum_at : System → ℕ → ℕ
+sum_at S i = (row_at S i).sum
+
 -- a row for a width: its minutes are below the width and rise strictly, and all its numbers are words of 16 bits
 pub record WellFormedRow (m : ℕ) (r : Row) : Type 0 where
   pub word : r.sum < 65536

@@ -12,7 +12,7 @@ use Rattle.algebra.proofs.Sums.{Σ-congr, Σ-mod}
 use Rattle.algebra.proofs.Pivots.{pivot_rows-Distinct, pivot_columns-Distinct, solution-Solves, vec_mul-multipliers}
 use Rattle.solver.specs.Slices.{IsVector}
 use Rattle.solver.specs.Steps.Vectors.{Begins}
-use Rattle.solver.specs.Pivots.{sum_at}
+use Rattle.rows.specs.Systems.{sum_at}
 use Rattle.solver.specs.Questions.{about_rows, about_columns, value_at, TrueAnswer}
 use Rattle.solver.specs.Runs.{x_of, u_of}
 use Rattle.solver.proofs.Filling.{list_of_values, values_hold}

@@ -9,7 +9,7 @@ use Rattle.algebra.proofs.Growth.{no_pivots-PivotsOf}
 use Rattle.algebra.proofs.Pivots.{count-le_columns}
 use Rattle.solver.specs.declared.findings.Findings.{Findings}
 use Rattle.solver.specs.declared.outcomes.Outcome.{Outcome}
-use Rattle.solver.specs.Pivots.{PivotsOfRows}
+use Rattle.solver.specs.Steps.Pivots.{PivotsOfRows}
 use Rattle.solver.specs.Steps.Pivots.{SamePivots}
 use Rattle.solver.specs.Outcomes.{outcome_case}
 use Rattle.solver.specs.Scouts.{ScoutMeaning}
@@ -23,11 +23,11 @@ use Rattle.solver.proofs.RunLaws.{run_laws}
 -- between two turns: there are pivots, the rest of the whole run is ahead, and nothing is written yet
 pub record Turning {X : Type 0} (K : Operations) (S : System) (M : ScoutMeaning X) (from : X) (f : Findings) (P : Pivots) (now : X) (f' : Findings) : Type 0 where
   pub pivots : PivotsOfRows K S P
-  pub asked : List Exchange
+  pub exchanges : List Exchange
   pub left : ℕ
-  pub many : length asked ≡ P.count + P.count
-  pub rest : whole_run K S M from ≡ run K S M left (state P None asked) now
-  pub enough : most_questions S ≤ left + length asked
+  pub many : length exchanges ≡ P.count + P.count
+  pub rest : whole_run K S M from ≡ run K S M left (state P None exchanges) now
+  pub enough : most_questions S ≤ left + length exchanges
   pub kept : f' ≡ f
 
 module _ {X : Type 0} (F : Lawful) (S : System) (formed : WellFormed S) (M : ScoutMeaning X) (from : X) (f : Findings) where
@@ -39,7 +39,7 @@ module _ {X : Type 0} (F : Lawful) (S : System) (formed : WellFormed S) (M : Sco
   turning_start P e =
       record {
         pivots = PivotsOf-same F (entry F.ops S) P no_pivots (none_same P e) (length S.rows) S.width (no_pivots-PivotsOf F (length S.rows) S.width (entry F.ops S));
-        asked = [];
+        exchanges = [];
         left = most_questions S;
         many = omega (arith, e);
         rest = sym (run-same F S M (most_questions S) P no_pivots None [] from (none_same P e));
@@ -55,15 +55,15 @@ module _ {X : Type 0} (F : Lawful) (S : System) (formed : WellFormed S) (M : Sco
     two_left : T.left ≡ suc (suc later)
     two_left = let few = count-le_columns F (length S.rows) S.width (entry F.ops S) P T.pivots in let e = T.enough in let m = T.many in omega arith
 
-    rest_now : whole_run F.ops S M from ≡ run F.ops S M (suc (suc later)) (state P None T.asked) now
-    rest_now = T.rest ∙ ap (λ left. run F.ops S M left (state P None T.asked) now) two_left
+    rest_now : whole_run F.ops S M from ≡ run F.ops S M (suc (suc later)) (state P None T.exchanges) now
+    rest_now = T.rest ∙ ap (λ left. run F.ops S M left (state P None T.exchanges) now) two_left
 
     pub turning_next : Turned F.ops S M P P' now to f' f'' (Ok tt) → PivotsOfRows F.ops S P' × (P'.count ≡ suc P.count) → Turning F.ops S M from f P' to f''
     turning_next turned grown =
-        let t = turned T.asked later T.many in
+        let t = turned T.exchanges later T.many in
         record {
           pivots = grown.0;
-          asked = t.0;
+          exchanges = t.0;
           left = later;
           many = t.1;
           rest = rest_now ∙ t.2;
@@ -73,7 +73,7 @@ module _ {X : Type 0} (F : Lawful) (S : System) (formed : WellFormed S) (M : Sco
 
     pub turning_end : (o : Outcome) → Turned F.ops S M P P' now to f' f'' (Err (outcome_case o)) → Settles F.ops S M from to f f'' o
     turning_end o turned =
-        let t = turned T.asked later T.many in
+        let t = turned T.exchanges later T.many in
         let defined = rest_now ∙ t.1 in
-        let writes = subst (λ o. Writes o t.0.asked f f'') t.2 (subst (λ f. Writes (outcome_case o) t.0.asked f f'') T.kept t.4) in
+        let writes = subst (λ o. Writes o t.0.exchanges f f'') t.2 (subst (λ f. Writes (outcome_case o) t.0.exchanges f f'') T.kept t.4) in
         record { ran = t.0; defined = defined; outcome = t.2; scout = t.3; writes = writes; laws = run_laws F S formed M from t.0 f f'' defined writes }

@@ -12,7 +12,7 @@ use Rattle.algebra.specs.Vectors.{δ, mul_vec}
 use Rattle.algebra.specs.Spans.{SolvesAll}
 use Rattle.algebra.proofs.Deltas.{δ-self, δ-ne}
 use Rattle.algebra.proofs.Sums.{Σ-congr, Σ-plus, Σ-of_zero, Σ-δ}
-use Rattle.solver.specs.Pivots.{sum_at}
+use Rattle.rows.specs.Systems.{sum_at}
 use Rattle.solver.proofs.AddedRows.{Without, weight_without}
 
 weight_first : (t : Term) (ts : List Term) → weight_for (t ∷ ts) t.minute ≡ t.weight

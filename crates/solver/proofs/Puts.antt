@@ -10,26 +10,26 @@ use Rattle.solver.specs.Outcomes.{Case, failed_case, IsFailed}
 use Rattle.solver.specs.Questions.{Asked, side, verified}
 use Rattle.solver.specs.Scouts.{ScoutMeaning}
 use Rattle.solver.specs.Runs.{Exchange, question, end, Writes, ending, named, question_of, continued}
-use Rattle.solver.specs.Steps.Turns.{state, asked_then, Continues}
+use Rattle.solver.specs.Steps.Turns.{state, exchanges_then, Continues}
 
 -- an answer verified, where the question has this number
 abbrev pub failed_or : ℕ → Asked → Result (Option ℕ) Case → Result (Option ℕ) Case
 failed_or number q (Ok a) = Ok a
 failed_or number q (Err fault) = Err (failed_case number (side q) fault)
 
-module _ {X : Type 0} (K : Operations) (S : System) (M : ScoutMeaning X) (P : Pivots) (row : Option ℕ) (asked : List Exchange) (from to : X) where
+module _ {X : Type 0} (K : Operations) (S : System) (M : ScoutMeaning X) (P : Pivots) (row : Option ℕ) (exchanges : List Exchange) (from to : X) where
   abbrev q : Asked
   q = question_of K S P row
 
   abbrev now : List Exchange
-  now = asked_then K S M (state P row asked) from
+  now = exchanges_then K S M (state P row exchanges) from
 
   -- a run that fails writes nothing
   fails : (o : Case) (f : Findings) → IsFailed o → Writes o now f f
   fails o f failed = record { minutes = λ e. absurd (omega arith); blame = λ e. absurd (omega arith); nothing = λ _. refl }
 
   -- how it goes on, by what the code answers
-  module _ (number : ℕ) (counted : number ≡ suc (length asked)) where
+  module _ (number : ℕ) (counted : number ≡ suc (length exchanges)) where
     ends_failed : (t : Result (Option ℕ) Case) (o : Case) → Err o ≡ failed_or number q t → (continued K S P row q now t ≡ end o) × IsFailed o
     ends_failed (Err fault) o e =
         let same : failed_case number (side q) fault ≡ o = cc in
@@ -47,7 +47,7 @@ module _ {X : Type 0} (K : Operations) (S : System) (M : ScoutMeaning X) (P : Pi
     goes_on (Ok (Some j)) i e = let same : j ≡ i = cc in ap (λ i. question (named K S P row now i)) same
 
     -- the code put this question, g, and answers r
-    pub continues : (g : Asked) → g ≡ q → to ≡ M.after from S g → (r : Result (Option ℕ) Case) → r ≡ failed_or number g (verified K S g (M.answer from S g)) → Continues K S M (state P row asked) from to r
+    pub continues : (g : Asked) → g ≡ q → to ≡ M.after from S g → (r : Result (Option ℕ) Case) → r ≡ failed_or number g (verified K S g (M.answer from S g)) → Continues K S M (state P row exchanges) from to r
     continues g same scout r is =
         let moved = scout ∙ ap (M.after from S) same in
         let t = verified K S q (M.answer from S q) in

@@ -8,7 +8,7 @@ use Rattle.field.specs.Laws.{Lawful}
 use Rattle.field.proofs.FieldLemmas.{zero-mod-q}
 use Rattle.rows.specs.Systems.{Row, System, empty_row, row_at, sum_of_row, WellFormed}
 use Rattle.rows.specs.Values.{entry, entry_of}
-use Rattle.solver.specs.Pivots.{sum_at}
+use Rattle.rows.specs.Systems.{sum_at}
 use Rattle.solver.proofs.AddedRows.{weight_without}
 
 sum_found : (rs : List Row) (i : ℕ) → unwrap_or (option_map (λ (r : Row). r.sum) (slice_get rs i)) 0 ≡ (slice_index_or rs i empty_row).sum

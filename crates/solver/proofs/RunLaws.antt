@@ -25,11 +25,12 @@ use Rattle.frame.specs.declared.refusals.Refusal.{Refusal}
 use Rattle.solver.specs.declared.findings.Findings.{Findings}
 use Rattle.solver.specs.declared.outcomes.Outcome.{Outcome}
 use Rattle.solver.specs.Slices.{Codes}
-use Rattle.solver.specs.Pivots.{sum_at, PivotsOfRows}
+use Rattle.rows.specs.Systems.{sum_at}
+use Rattle.solver.specs.Steps.Pivots.{PivotsOfRows}
 use Rattle.solver.specs.Questions.{Asked, about_rows, about_columns, HandsCodes, side, value_at, verified, FalseAnswer, TrueAnswer, Verifies}
 use Rattle.solver.specs.Outcomes.{Case, side_case, solved_case, contradiction_case, failed_case, outcome_case, IsFailed}
 use Rattle.solver.specs.Scouts.{ScoutMeaning}
-use Rattle.solver.specs.Runs.{Exchange, State, start, Progress, question, end, Ran, values_of, x_of, u_of, question_of, next_question, named, ending, continued, step, pivot_columns, run, whole_run, most_questions, Writes}
+use Rattle.solver.specs.Runs.{Exchange, State, start, Progress, question, end, Ran, list_of, x_of, u_of, question_of, next_question, named, ending, continued, step, pivot_columns, run, whole_run, most_questions, Writes}
 use Rattle.solver.specs.Steps.Turns.{state}
 use Rattle.solver.specs.Laws.{Gave, SomeFalse, Alternate, FailureTells, SolvedLaws, ContradictionLaws, AnswerLaws, FoundPivots, RunLaws, Settles}
 use Rattle.solver.proofs.Verifying.{verifies, true_not_false}
@@ -66,7 +67,7 @@ module _ {X : Type 0} (F : Lawful) (S : System) (formed : WellFormed S) (M : Sco
   multipliers_code P i r = F.plus_code (δ i r) (F.ops.negative (place F.ops P.count P.row (row_coefficients F.ops (entry F.ops S) P i) r))
 
   -- values that are all codes
-  values_codes : (n : ℕ) (f : ℕ → ℕ) → ((k : ℕ) → f k < F.ops.q) → (length (values_of n f) ≡ n) × Codes F.ops.q (values_of n f)
+  values_codes : (n : ℕ) (f : ℕ → ℕ) → ((k : ℕ) → f k < F.ops.q) → (length (list_of n f) ≡ n) × Codes F.ops.q (list_of n f)
   values_codes n f code =
       let held = values_hold n f in
       (held.long, λ k h. subst (λ v. v < F.ops.q) (sym (held.each k (let e = held.long in omega arith))) (code k))
@@ -78,19 +79,19 @@ module _ {X : Type 0} (F : Lawful) (S : System) (formed : WellFormed S) (M : Sco
   abbrev answer_of : Pivots → Option ℕ → X → Option ℕ
   answer_of P row scout = M.answer scout S (question_of F.ops S P row)
 
-  hands_more : (P : Pivots) (row : Option ℕ) (asked : List Exchange) (a : Option ℕ) → AllHand asked → AllHand (record { question = question_of F.ops S P row; answer = a } ∷ asked)
-  hands_more P row asked a hand zero d h = question_hands P row
-  hands_more P row asked a hand (suc k) d h = hand k d (le_of_suc-le-suc h)
+  hands_more : (P : Pivots) (row : Option ℕ) (exchanges : List Exchange) (a : Option ℕ) → AllHand exchanges → AllHand (record { question = question_of F.ops S P row; answer = a } ∷ exchanges)
+  hands_more P row exchanges a hand zero d h = question_hands P row
+  hands_more P row exchanges a hand (suc k) d h = hand k d (le_of_suc-le-suc h)
 
   -- what a run keeps between two questions
   pub record Keeps (st : State) (scout : X) : Type 0 where
     pub pivots : PivotsOfRows F.ops S st.pivots
     pub row : RowLeft st.pivots st.row
-    pub count : Counted st.pivots.count st.row (length st.asked)
-    pub turns : Alternate st.asked
-    pub all_true : SomeFalse F.ops S st.asked → ⊥
-    pub hand_codes : AllHand st.asked
-    pub gave : Gave S M from st.asked scout
+    pub count : Counted st.pivots.count st.row (length st.exchanges)
+    pub turns : Alternate st.exchanges
+    pub all_true : SomeFalse F.ops S st.exchanges → ⊥
+    pub hand_codes : AllHand st.exchanges
+    pub gave : Gave S M from st.exchanges scout
 
   pub keeps_start : Keeps start from
   keeps_start =
@@ -108,7 +109,7 @@ module _ {X : Type 0} (F : Lawful) (S : System) (formed : WellFormed S) (M : Sco
   abbrev asks : State → X → Exchange
   asks st scout = record { question = next_question F.ops S st; answer = M.answer scout S (next_question F.ops S st) }
 
-  still_true : (st : State) (scout : X) → Keeps st scout → TrueAnswer F.ops S (next_question F.ops S st) (M.answer scout S (next_question F.ops S st)) → SomeFalse F.ops S (asks st scout ∷ st.asked) → ⊥
+  still_true : (st : State) (scout : X) → Keeps st scout → TrueAnswer F.ops S (next_question F.ops S st) (M.answer scout S (next_question F.ops S st)) → SomeFalse F.ops S (asks st scout ∷ st.exchanges) → ⊥
   still_true st scout K t (inl f) = true_not_false F.ops S (next_question F.ops S st) (M.answer scout S (next_question F.ops S st)) t f
   still_true st scout K t (inr f) = K.all_true f
 
@@ -123,44 +124,44 @@ module _ {X : Type 0} (F : Lawful) (S : System) (formed : WellFormed S) (M : Sco
   counts_last s (Some i) k counted = inr (omega (arith, counted))
 
   -- a true answer that names a place leads on
-  named_keeps : (P : Pivots) (row : Option ℕ) (asked : List Exchange) (scout : X) (i : ℕ) → Keeps (state P row asked) scout →
+  named_keeps : (P : Pivots) (row : Option ℕ) (exchanges : List Exchange) (scout : X) (i : ℕ) → Keeps (state P row exchanges) scout →
       TrueAnswer F.ops S (question_of F.ops S P row) (M.answer scout S (question_of F.ops S P row)) → M.answer scout S (question_of F.ops S P row) ≡ Some i →
-      Keeps (named F.ops S P row (asks (state P row asked) scout ∷ asked) i) (M.after scout S (question_of F.ops S P row))
-  named_keeps P None asked scout i K t e =
+      Keeps (named F.ops S P row (asks (state P row exchanges) scout ∷ exchanges) i) (M.after scout S (question_of F.ops S P row))
+  named_keeps P None exchanges scout i K t e =
       let named = subst (TrueAnswer F.ops S (question_of F.ops S P None)) e t in
       record {
         pivots = K.pivots;
         row = named;
         count = omega (arith, K.count);
-        turns = (turn_next P None (length asked) K.count, K.turns);
-        all_true = still_true (state P None asked) scout K t;
-        hand_codes = hands_more P None asked (answer_of P None scout) K.hand_codes;
+        turns = (turn_next P None (length exchanges) K.count, K.turns);
+        all_true = still_true (state P None exchanges) scout K t;
+        hand_codes = hands_more P None exchanges (answer_of P None scout) K.hand_codes;
         gave = (scout, K.gave, refl, refl);
       }
-  named_keeps P (Some r) asked scout i K t e =
+  named_keeps P (Some r) exchanges scout i K t e =
       let named = subst (TrueAnswer F.ops S (question_of F.ops S P (Some r))) e t in
       record {
         pivots = grown_pivots F S P K.pivots r i K.row.0 named.0 (λ z. named.1 (column_left F S formed P K.pivots r i K.row.0 ∙ z));
         row = tt;
         count = omega (arith, K.count);
-        turns = (turn_next P (Some r) (length asked) K.count, K.turns);
-        all_true = still_true (state P (Some r) asked) scout K t;
-        hand_codes = hands_more P (Some r) asked (answer_of P (Some r) scout) K.hand_codes;
+        turns = (turn_next P (Some r) (length exchanges) K.count, K.turns);
+        all_true = still_true (state P (Some r) exchanges) scout K t;
+        hand_codes = hands_more P (Some r) exchanges (answer_of P (Some r) scout) K.hand_codes;
         gave = (scout, K.gave, refl, refl);
       }
 
-  leads_on : (P : Pivots) (row : Option ℕ) (asked : List Exchange) (scout : X) → Keeps (state P row asked) scout → (t : Result (Option ℕ) Case) (later : State) →
+  leads_on : (P : Pivots) (row : Option ℕ) (exchanges : List Exchange) (scout : X) → Keeps (state P row exchanges) scout → (t : Result (Option ℕ) Case) (later : State) →
       Verifies F.ops S (question_of F.ops S P row) (M.answer scout S (question_of F.ops S P row)) t →
-      continued F.ops S P row (question_of F.ops S P row) (asks (state P row asked) scout ∷ asked) t ≡ question later → Keeps later (M.after scout S (question_of F.ops S P row))
-  leads_on P row asked scout K (Err fault) later j e = absurd (end_question (failed_case (suc (length asked)) (side (question_of F.ops S P row)) fault) later e)
-  leads_on P row asked scout K (Ok None) later j e = absurd (end_question (ending P row (asks (state P row asked) scout ∷ asked)) later e)
-  leads_on P row asked scout K (Ok (Some i)) later j e =
-      let same : named F.ops S P row (asks (state P row asked) scout ∷ asked) i ≡ later = cc in
-      subst (λ st. Keeps st (M.after scout S (question_of F.ops S P row))) same (named_keeps P row asked scout i K j.1 (sym j.0))
+      continued F.ops S P row (question_of F.ops S P row) (asks (state P row exchanges) scout ∷ exchanges) t ≡ question later → Keeps later (M.after scout S (question_of F.ops S P row))
+  leads_on P row exchanges scout K (Err fault) later j e = absurd (end_question (failed_case (suc (length exchanges)) (side (question_of F.ops S P row)) fault) later e)
+  leads_on P row exchanges scout K (Ok None) later j e = absurd (end_question (ending P row (asks (state P row exchanges) scout ∷ exchanges)) later e)
+  leads_on P row exchanges scout K (Ok (Some i)) later j e =
+      let same : named F.ops S P row (asks (state P row exchanges) scout ∷ exchanges) i ≡ later = cc in
+      subst (λ st. Keeps st (M.after scout S (question_of F.ops S P row))) same (named_keeps P row exchanges scout i K j.1 (sym j.0))
 
   -- a run that ends so with the next question
   abbrev ran_to : State → X → Case → Ran X
-  ran_to st scout o = record { outcome = o; rows = pivot_rows st.pivots; columns = pivot_columns st.pivots; asked = asks st scout ∷ st.asked; scout = M.after scout S (next_question F.ops S st) }
+  ran_to st scout o = record { outcome = o; pivot_rows = pivot_rows st.pivots; pivot_columns = pivot_columns st.pivots; exchanges = asks st scout ∷ st.exchanges; scout = M.after scout S (next_question F.ops S st) }
 
   -- the last question of a run
   pub record Last (r : Ran X) : Type 0 where
@@ -171,38 +172,38 @@ module _ {X : Type 0} (F : Lawful) (S : System) (formed : WellFormed S) (M : Sco
     pub ended : step F.ops S st (M.answer scout S (next_question F.ops S st)) ≡ end outcome
     pub is : r ≡ ran_to st scout outcome
 
-  named_asked : (P : Pivots) (row : Option ℕ) (asked : List Exchange) (i : ℕ) → (named F.ops S P row asked i).asked ≡ asked
-  named_asked P None asked i = refl
-  named_asked P (Some r) asked i = refl
+  named_asked : (P : Pivots) (row : Option ℕ) (exchanges : List Exchange) (i : ℕ) → (named F.ops S P row exchanges i).exchanges ≡ exchanges
+  named_asked P None exchanges i = refl
+  named_asked P (Some r) exchanges i = refl
 
-  asked_later : (P : Pivots) (row : Option ℕ) (q : Asked) (asked : List Exchange) (t : Result (Option ℕ) Case) (later : State) → continued F.ops S P row q asked t ≡ question later → later.asked ≡ asked
-  asked_later P row q asked (Err fault) later e = absurd (end_question (failed_case (length asked) (side q) fault) later e)
-  asked_later P row q asked (Ok None) later e = absurd (end_question (ending P row asked) later e)
-  asked_later P row q asked (Ok (Some i)) later e =
-      let same : named F.ops S P row asked i ≡ later = cc in
-      ap (λ (st : State). st.asked) (sym same) ∙ named_asked P row asked i
+  asked_later : (P : Pivots) (row : Option ℕ) (q : Asked) (exchanges : List Exchange) (t : Result (Option ℕ) Case) (later : State) → continued F.ops S P row q exchanges t ≡ question later → later.exchanges ≡ exchanges
+  asked_later P row q exchanges (Err fault) later e = absurd (end_question (failed_case (length exchanges) (side q) fault) later e)
+  asked_later P row q exchanges (Ok None) later e = absurd (end_question (ending P row exchanges) later e)
+  asked_later P row q exchanges (Ok (Some i)) later e =
+      let same : named F.ops S P row exchanges i ≡ later = cc in
+      ap (λ (st : State). st.exchanges) (sym same) ∙ named_asked P row exchanges i
 
   counted_below : (s : ℕ) (row : Option ℕ) (k : ℕ) → s ≤ S.width → Counted s row k → k < most_questions S
   counted_below s None k few c = omega arith
   counted_below s (Some i) k few c = omega arith
 
-  asked_below : (st : State) (scout : X) → Keeps st scout → length st.asked < most_questions S
-  asked_below st scout K = counted_below st.pivots.count st.row (length st.asked) (count-le_columns F (length S.rows) S.width (entry F.ops S) st.pivots K.pivots) K.count
+  asked_below : (st : State) (scout : X) → Keeps st scout → length st.exchanges < most_questions S
+  asked_below st scout K = counted_below st.pivots.count st.row (length st.exchanges) (count-le_columns F (length S.rows) S.width (entry F.ops S) st.pivots K.pivots) K.count
 
   -- every run that ends has one, and a run with questions enough ends
   abbrev Ends : ℕ → Type 0
-  Ends left = (st : State) (scout : X) → Keeps st scout → most_questions S ≤ left + length st.asked → (r : Ran X) × (run F.ops S M left st scout ≡ Some r) × Last r
+  Ends left = (st : State) (scout : X) → Keeps st scout → most_questions S ≤ left + length st.exchanges → (r : Ran X) × (run F.ops S M left st scout ≡ Some r) × Last r
 
-  goes : (left : ℕ) → Ends left → (st : State) (scout : X) → Keeps st scout → most_questions S ≤ suc left + length st.asked → (n : Progress) →
+  goes : (left : ℕ) → Ends left → (st : State) (scout : X) → Keeps st scout → most_questions S ≤ suc left + length st.exchanges → (n : Progress) →
       step F.ops S st (M.answer scout S (next_question F.ops S st)) ≡ n →
-      (r : Ran X) × (go F S M left st.pivots (asks st scout ∷ st.asked) (M.after scout S (next_question F.ops S st)) n ≡ Some r) × Last r
+      (r : Ran X) × (go F S M left st.pivots (asks st scout ∷ st.exchanges) (M.after scout S (next_question F.ops S st)) n ≡ Some r) × Last r
   unfolding go
   goes left ends st scout K enough (question later) e =
       let q = next_question F.ops S st in
       let t = verified F.ops S q (M.answer scout S q) in
-      let asked = asked_later st.pivots st.row q (asks st scout ∷ st.asked) t later e in
-      let more : length later.asked ≡ suc (length st.asked) = ap length asked in
-      ends later (M.after scout S q) (leads_on st.pivots st.row st.asked scout K t later (verifies F.ops S q (M.answer scout S q)) e) (omega arith)
+      let exchanges = asked_later st.pivots st.row q (asks st scout ∷ st.exchanges) t later e in
+      let more : length later.exchanges ≡ suc (length st.exchanges) = ap length exchanges in
+      ends later (M.after scout S q) (leads_on st.pivots st.row st.exchanges scout K t later (verifies F.ops S q (M.answer scout S q)) e) (omega arith)
   goes left ends st scout K enough (end o) e = (
     ran_to st scout o,
     refl,
@@ -216,32 +217,32 @@ module _ {X : Type 0} (F : Lawful) (S : System) (formed : WellFormed S) (M : Sco
       (found.0, run_step F S M left st scout ∙ found.1, found.2)
 
   -- the laws at the last question, whose answer was verified
-  module _ (P : Pivots) (row : Option ℕ) (asked : List Exchange) (scout : X) (K : Keeps (state P row asked) scout) where
+  module _ (P : Pivots) (row : Option ℕ) (exchanges : List Exchange) (scout : X) (K : Keeps (state P row exchanges) scout) where
     abbrev q : Asked
     q = question_of F.ops S P row
 
     abbrev now : List Exchange
-    now = asks (state P row asked) scout ∷ asked
+    now = asks (state P row exchanges) scout ∷ exchanges
 
     abbrev ran : Case → Ran X
-    ran o = ran_to (state P row asked) scout o
+    ran o = ran_to (state P row exchanges) scout o
 
     long : length (pivot_rows P) ≡ P.count
     long = pivot_rows-length F (length S.rows) S.width (entry F.ops S) P
 
     counts_now : (length now ≡ length (pivot_rows P) + length (pivot_rows P) + 1) ⊎ (length now ≡ length (pivot_rows P) + length (pivot_rows P) + 2)
-    counts_now = subst (λ s. (length now ≡ s + s + 1) ⊎ (length now ≡ s + s + 2)) (sym long) (counts_last P.count row (length asked) K.count)
+    counts_now = subst (λ s. (length now ≡ s + s + 1) ⊎ (length now ≡ s + s + 2)) (sym long) (counts_last P.count row (length exchanges) K.count)
 
     never_false : ((state : X) (q : Asked) → FalseAnswer F.ops S q (M.answer state S q) → ⊥) → SomeFalse F.ops S now → ⊥
     never_false all_true (inl f) = all_true scout q f
     never_false all_true (inr f) = K.all_true f
 
-    answers : (o : Case) → IsFailed o ↔ SomeFalse F.ops S now → (IsFailed o → FailureTells F.ops S now o.values) → AnswerLaws F.ops S M from (ran o)
+    answers : (o : Case) → IsFailed o ↔ SomeFalse F.ops S now → (IsFailed o → FailureTells F.ops S now o) → AnswerLaws F.ops S M from (ran o)
     answers o failed tells =
         record {
           gave = (scout, K.gave, refl, refl);
-          hand_codes = hands_more P row asked (answer_of P row scout) K.hand_codes;
-          turns = (turn_next P row (length asked) K.count, K.turns);
+          hand_codes = hands_more P row exchanges (answer_of P row scout) K.hand_codes;
+          turns = (turn_next P row (length exchanges) K.count, K.turns);
           counts = counts_now;
           failed = failed;
           before_true = K.all_true;
@@ -253,7 +254,7 @@ module _ {X : Type 0} (F : Lawful) (S : System) (formed : WellFormed S) (M : Sco
     true_answers : (o : Case) → (IsFailed o → ⊥) → TrueAnswer F.ops S q (M.answer scout S q) → AnswerLaws F.ops S M from (ran o)
     true_answers o not_failed t =
         answers o
-        (λ e. absurd (not_failed e), λ false. absurd (still_true (state P row asked) scout K t false))
+        (λ e. absurd (not_failed e), λ false. absurd (still_true (state P row exchanges) scout K t false))
         (λ e. absurd (not_failed e))
 
     -- the pivot columns
@@ -311,13 +312,13 @@ module _ {X : Type 0} (F : Lawful) (S : System) (formed : WellFormed S) (M : Sco
         record {
           solved = λ e. absurd (omega arith);
           contradiction = λ e. absurd (omega arith);
-          answers = answers (failed_case (length now) (side q) fault) (λ _. inl v.0, λ _. refl) (λ _. (fault, v.1, refl));
+          answers = answers (failed_case (length now) (side q) fault) (λ _. inl v.0, λ _. refl) (λ _. (v.1.0, v.1.1, ap (failed_case (length now) (side q)) v.1.2));
           pivots = found (failed_case (length now) (side q) fault);
         }
 
   -- the last question was one of rows, and no row is left
-  module _ (P : Pivots) (asked : List Exchange) (scout : X) (K : Keeps (state P None asked) scout) (f f' : Findings)
-      (own : TrueAnswer F.ops S (about_rows (x_of F.ops S P)) (M.answer scout S (about_rows (x_of F.ops S P)))) (t : TrueAnswer F.ops S (about_rows (x_of F.ops S P)) None) (W : Writes (ending P None (now P None asked scout K)) (now P None asked scout K) f f') where
+  module _ (P : Pivots) (exchanges : List Exchange) (scout : X) (K : Keeps (state P None exchanges) scout) (f f' : Findings)
+      (own : TrueAnswer F.ops S (about_rows (x_of F.ops S P)) (M.answer scout S (about_rows (x_of F.ops S P)))) (t : TrueAnswer F.ops S (about_rows (x_of F.ops S P)) None) (W : Writes (ending P None (now P None exchanges scout K)) (now P None exchanges scout K) f f') where
     abbrev x : List ℕ
     x = x_of F.ops S P
 
@@ -340,43 +341,43 @@ module _ {X : Type 0} (F : Lawful) (S : System) (formed : WellFormed S) (M : Sco
     solves : (y : ℕ → ℕ) → SatisfiesAll F.ops S y → SolvesAll F.ops (length S.rows) S.width (entry F.ops S) (sum_at S) y
     solves y ys = SolvesAll-of_SatisfiesAll F S formed y ys
 
-    solved_laws : SolvedLaws F.ops S (ran P None asked scout K (ending P None (now P None asked scout K))) minutes
+    solved_laws : SolvedLaws F.ops S (ran P None exchanges scout K (ending P None (now P None exchanges scout K))) minutes
     solved_laws =
         let A = entry F.ops S in
         let b = sum_at S in
-        let l = long P None asked scout K in
+        let l = long P None exchanges scout K in
         let counted = K.count in
         record {
           satisfied = satisfied;
           codes = x_codes;
           elsewhere = λ c h none.
               x_solution c h
-              ∙ place-elsewhere F P.count P.column (mul_vec F.ops P.count P.inverse (λ l. b (P.row l))) c (λ k hk e. none (contains_column P None asked scout K c k hk e));
+              ∙ place-elsewhere F P.count P.column (mul_vec F.ops P.count P.inverse (λ l. b (P.row l))) c (λ k hk e. none (contains_column P None exchanges scout K c k hk e));
           determined = λ y ys agree c h.
               Solves-unique F (length S.rows) S.width A P K.pivots b y minutes
               (λ k hk. solves y ys (P.row k) (K.pivots.rows_below k hk))
               (λ k hk. solves minutes satisfied (P.row k) (K.pivots.rows_below k hk))
-              (λ c h out. agree c h (outside_column P None asked scout K c out)) c h
+              (λ c h out. agree c h (outside_column P None exchanges scout K c out)) c h
               ∙ mod-eq_of_lt (x_codes c h);
           only = λ whole y ys c h.
               SolvesAll-unique F (length S.rows) S.width A P K.pivots (sym l ∙ whole) b y minutes (solves y ys) (solves minutes satisfied) c h
               ∙ mod-eq_of_lt (x_codes c h);
-          told = ap (λ s. solved_case s (suc (length asked))) (sym l);
+          told = ap (λ s. solved_case s (suc (length exchanges))) (sym l);
           questions = omega arith;
         }
 
-    laws_of_solved : RunLaws F.ops S M from (ran P None asked scout K (ending P None (now P None asked scout K))) minutes (choice f'.blame)
+    laws_of_solved : RunLaws F.ops S M from (ran P None exchanges scout K (ending P None (now P None exchanges scout K))) minutes (choice f'.blame)
     laws_of_solved =
         record {
           solved = λ _. solved_laws;
           contradiction = λ e. absurd (omega arith);
-          answers = true_answers P None asked scout K (ending P None (now P None asked scout K)) (λ e. omega arith) own;
-          pivots = found P None asked scout K (ending P None (now P None asked scout K));
+          answers = true_answers P None exchanges scout K (ending P None (now P None exchanges scout K)) (λ e. omega arith) own;
+          pivots = found P None exchanges scout K (ending P None (now P None exchanges scout K));
         }
 
   -- or it was one of columns, and none of them is left
-  module _ (P : Pivots) (i : ℕ) (asked : List Exchange) (scout : X) (K : Keeps (state P (Some i) asked) scout) (f f' : Findings)
-      (own : TrueAnswer F.ops S (about_columns (u_of F.ops S P i)) (M.answer scout S (about_columns (u_of F.ops S P i)))) (t : TrueAnswer F.ops S (about_columns (u_of F.ops S P i)) None) (W : Writes (ending P (Some i) (now P (Some i) asked scout K)) (now P (Some i) asked scout K) f f') where
+  module _ (P : Pivots) (i : ℕ) (exchanges : List Exchange) (scout : X) (K : Keeps (state P (Some i) exchanges) scout) (f f' : Findings)
+      (own : TrueAnswer F.ops S (about_columns (u_of F.ops S P i)) (M.answer scout S (about_columns (u_of F.ops S P i)))) (t : TrueAnswer F.ops S (about_columns (u_of F.ops S P i)) None) (W : Writes (ending P (Some i) (now P (Some i) exchanges scout K)) (now P (Some i) exchanges scout K) f f') where
     abbrev u : List ℕ
     u = u_of F.ops S P i
 
@@ -401,48 +402,48 @@ module _ {X : Type 0} (F : Lawful) (S : System) (formed : WellFormed S) (M : Sco
         (λ r hr. ap (λ v. F.ops.times v (sum_at S r)) (u_multipliers r hr)))
         ∙ z)
 
-    contradiction_laws : ContradictionLaws F.ops S (ran P (Some i) asked scout K (ending P (Some i) (now P (Some i) asked scout K))) blame
+    contradiction_laws : ContradictionLaws F.ops S (ran P (Some i) exchanges scout K (ending P (Some i) (now P (Some i) exchanges scout K))) blame
     contradiction_laws =
-        let l = long P (Some i) asked scout K in
+        let l = long P (Some i) exchanges scout K in
         let counted = K.count in
         record {
           blamed = (null, left);
           refuted = λ y ys. no_solution F (length S.rows) S.width (entry F.ops S) (sum_at S) blame null left y (SolvesAll-of_SatisfiesAll F S formed y ys);
           codes = λ r h. subst (λ v. v < F.ops.q) (sym (u_multipliers r h)) (multipliers_code P i r);
-          told = ap (λ s. contradiction_case s (suc (length asked))) (sym l);
+          told = ap (λ s. contradiction_case s (suc (length exchanges))) (sym l);
           questions = omega arith;
         }
 
-    laws_of_contradiction : RunLaws F.ops S M from (ran P (Some i) asked scout K (ending P (Some i) (now P (Some i) asked scout K))) (choice f'.minutes) blame
+    laws_of_contradiction : RunLaws F.ops S M from (ran P (Some i) exchanges scout K (ending P (Some i) (now P (Some i) exchanges scout K))) (choice f'.minutes) blame
     laws_of_contradiction =
         record {
           solved = λ e. absurd (omega arith);
           contradiction = λ _. contradiction_laws;
-          answers = true_answers P (Some i) asked scout K (ending P (Some i) (now P (Some i) asked scout K)) (λ e. omega arith) own;
-          pivots = found P (Some i) asked scout K (ending P (Some i) (now P (Some i) asked scout K));
+          answers = true_answers P (Some i) exchanges scout K (ending P (Some i) (now P (Some i) exchanges scout K)) (λ e. omega arith) own;
+          pivots = found P (Some i) exchanges scout K (ending P (Some i) (now P (Some i) exchanges scout K));
         }
 
   -- every case
-  laws_at : (P : Pivots) (row : Option ℕ) (asked : List Exchange) (scout : X) (K : Keeps (state P row asked) scout) (f f' : Findings) (t : Result (Option ℕ) Case) (o : Case) →
+  laws_at : (P : Pivots) (row : Option ℕ) (exchanges : List Exchange) (scout : X) (K : Keeps (state P row exchanges) scout) (f f' : Findings) (t : Result (Option ℕ) Case) (o : Case) →
       Verifies F.ops S (question_of F.ops S P row) (M.answer scout S (question_of F.ops S P row)) t →
-      continued F.ops S P row (question_of F.ops S P row) (now P row asked scout K) t ≡ end o →
-      Writes o (now P row asked scout K) f f' → Laws P row asked scout K f' o
-  laws_at P row asked scout K f f' (Err fault) o v e W =
-      let same : failed_case (suc (length asked)) (side (question_of F.ops S P row)) fault ≡ o = cc in
-      subst (Laws P row asked scout K f') same (failed_laws P row asked scout K f' fault v)
-  laws_at P None asked scout K f f' (Ok None) o v e W =
-      let same : ending P None (now P None asked scout K) ≡ o = cc in
-      subst (Laws P None asked scout K f') same
-      (laws_of_solved P asked scout K f f' v.1 (subst (TrueAnswer F.ops S (about_rows (x_of F.ops S P))) (sym v.0) v.1) (subst (λ o. Writes o (now P None asked scout K) f f') (sym same) W))
-  laws_at P (Some i) asked scout K f f' (Ok None) o v e W =
-      let same : ending P (Some i) (now P (Some i) asked scout K) ≡ o = cc in
-      subst (Laws P (Some i) asked scout K f') same
-      (laws_of_contradiction P i asked scout K f f' v.1 (subst (TrueAnswer F.ops S (about_columns (u_of F.ops S P i))) (sym v.0) v.1) (subst (λ o. Writes o (now P (Some i) asked scout K) f f') (sym same) W))
-  laws_at P row asked scout K f f' (Ok (Some i)) o v e W =
-      absurd (end_question o (named F.ops S P row (now P row asked scout K) i) (sym e))
+      continued F.ops S P row (question_of F.ops S P row) (now P row exchanges scout K) t ≡ end o →
+      Writes o (now P row exchanges scout K) f f' → Laws P row exchanges scout K f' o
+  laws_at P row exchanges scout K f f' (Err fault) o v e W =
+      let same : failed_case (suc (length exchanges)) (side (question_of F.ops S P row)) fault ≡ o = cc in
+      subst (Laws P row exchanges scout K f') same (failed_laws P row exchanges scout K f' fault v)
+  laws_at P None exchanges scout K f f' (Ok None) o v e W =
+      let same : ending P None (now P None exchanges scout K) ≡ o = cc in
+      subst (Laws P None exchanges scout K f') same
+      (laws_of_solved P exchanges scout K f f' v.1 (subst (TrueAnswer F.ops S (about_rows (x_of F.ops S P))) (sym v.0) v.1) (subst (λ o. Writes o (now P None exchanges scout K) f f') (sym same) W))
+  laws_at P (Some i) exchanges scout K f f' (Ok None) o v e W =
+      let same : ending P (Some i) (now P (Some i) exchanges scout K) ≡ o = cc in
+      subst (Laws P (Some i) exchanges scout K f') same
+      (laws_of_contradiction P i exchanges scout K f f' v.1 (subst (TrueAnswer F.ops S (about_columns (u_of F.ops S P i))) (sym v.0) v.1) (subst (λ o. Writes o (now P (Some i) exchanges scout K) f f') (sym same) W))
+  laws_at P row exchanges scout K f f' (Ok (Some i)) o v e W =
+      absurd (end_question o (named F.ops S P row (now P row exchanges scout K) i) (sym e))
 
   -- the laws of a run that has ended
-  pub run_laws : (r : Ran X) (f f' : Findings) → whole_run F.ops S M from ≡ Some r → Writes r.outcome r.asked f f' → RunLaws F.ops S M from r (choice f'.minutes) (choice f'.blame)
+  pub run_laws : (r : Ran X) (f f' : Findings) → whole_run F.ops S M from ≡ Some r → Writes r.outcome r.exchanges f f' → RunLaws F.ops S M from r (choice f'.minutes) (choice f'.blame)
   run_laws r f f' e W =
       let found = last_of (most_questions S) start from keeps_start (omega arith) in
       let last = found.2 in
@@ -452,7 +453,7 @@ module _ {X : Type 0} (F : Lawful) (S : System) (formed : WellFormed S) (M : Sco
       let q = next_question F.ops S last.st in
       let a = M.answer last.scout S q in
       subst (λ r. RunLaws F.ops S M from r (choice f'.minutes) (choice f'.blame)) (sym is)
-      (laws_at last.st.pivots last.st.row last.st.asked last.scout last.keeps f f' (verified F.ops S q a) last.outcome (verifies F.ops S q a) last.ended (subst (λ r. Writes r.outcome r.asked f f') is W))
+      (laws_at last.st.pivots last.st.row last.st.exchanges last.scout last.keeps f f' (verified F.ops S q a) last.outcome (verifies F.ops S q a) last.ended (subst (λ r. Writes r.outcome r.exchanges f f') is W))
 
 -- where a scout's answers are all true its settle does not fail
 pub not_failed : {X : Type 0} (K : Operations) (S : System) (M : ScoutMeaning X) (from to : X) (f f' : Findings) (r : Result Outcome Refusal) →

@@ -9,12 +9,13 @@ use Rattle.rows.specs.Systems.{System}
 use Rattle.rows.specs.Values.{choice, entry, column_value, SatisfiesAll}
 use Rattle.rows.specs.Columns.{DifferentColumns, Determine}
 use Rattle.algebra.specs.Profiles.{IndependentRows, rank}
+use Rattle.solver.specs.declared.faults.Fault.{Fault}
 use Rattle.solver.specs.declared.findings.Findings.{Findings}
 use Rattle.solver.specs.declared.outcomes.Outcome.{Outcome}
 use Rattle.solver.specs.declared.spaces.TheConstants.{WORK_WORDS}
-use Rattle.solver.specs.Pivots.{sum_at}
-use Rattle.solver.specs.Questions.{Asked, side, HandsCodes, TellsFault, FalseAnswer}
-use Rattle.solver.specs.Outcomes.{Case, side_case, solved_case, contradiction_case, outcome_case, IsSolved, IsContradiction, IsFailed}
+use Rattle.rows.specs.Systems.{sum_at}
+use Rattle.solver.specs.Questions.{Asked, side, HandsCodes, HasFault, FalseAnswer}
+use Rattle.solver.specs.Outcomes.{Case, fault_case, side_case, solved_case, contradiction_case, failed_case, outcome_case, IsSolved, IsContradiction, IsFailed}
 use Rattle.solver.specs.Scouts.{ScoutMeaning}
 use Rattle.solver.specs.Runs.{Exchange, Ran, Writes, whole_run}
 
@@ -35,14 +36,13 @@ abbrev pub Alternate : List Exchange → Type 0
 Alternate [] = ⊤
 Alternate (e ∷ es) = ((side_case (side e.question)).number ≡ suc (length es % 2)) × Alternate es
 
--- a failure tells of the last question: its number from 1, its side, and what is false in its
+-- a failed case tells of the last question: its number from 1, its side, and what is false in its
 -- answer
-abbrev pub FailureTells : Operations → System → List Exchange → List ℕ → Type 0
-FailureTells K S [] values = ⊥
-FailureTells K S (e ∷ es) values =
-    (fault : Case) × TellsFault K S e.question e.answer fault
-    × (values ≡
-    suc (length es) ∷ (side_case (side e.question)).number ∷ fault.number ∷ fault.values)
+abbrev pub FailureTells : Operations → System → List Exchange → Case → Type 0
+FailureTells K S [] o = ⊥
+FailureTells K S (e ∷ es) o =
+    (fault : Fault) × HasFault K S e.question e.answer fault
+    × (o ≡ failed_case (suc (length es)) (side e.question) (fault_case fault))
 
 -- u blames rows whose combination is impossible: times u the weights add up to 0 at every minute,
 -- and the sums do not
@@ -57,15 +57,15 @@ pub record SolvedLaws {X : Type 0} (K : Operations) (S : System)
   -- the minutes satisfy every row; they are codes, and 0 outside the pivot columns
   pub satisfied : SatisfiesAll K S x
   pub codes : (c : ℕ) → c < S.width → x c < K.q
-  pub elsewhere : (c : ℕ) → c < S.width → ¬ Contains r.columns c → x c ≡ 0
+  pub elsewhere : (c : ℕ) → c < S.width → ¬ Contains r.pivot_columns c → x c ≡ 0
   -- no others satisfy every row and agree with them outside the pivot columns; none do where there
   -- are as many pivots as minutes
-  pub determined : Determine K S r.columns x
-  pub only : length r.rows ≡ S.width →
+  pub determined : Determine K S r.pivot_columns x
+  pub only : length r.pivot_rows ≡ S.width →
       (y : ℕ → ℕ) → SatisfiesAll K S y → (c : ℕ) → c < S.width → y c % K.q ≡ x c
   -- it tells its pivots and its questions, one more than two for each pivot
-  pub told : r.outcome ≡ solved_case (length r.rows) (length r.asked)
-  pub questions : length r.asked ≡ length r.rows + length r.rows + 1
+  pub told : r.outcome ≡ solved_case (length r.pivot_rows) (length r.exchanges)
+  pub questions : length r.exchanges ≡ length r.pivot_rows + length r.pivot_rows + 1
 
 -- a run that ends in a contradiction with the blame u
 pub record ContradictionLaws {X : Type 0} (K : Operations) (S : System)
@@ -75,25 +75,25 @@ pub record ContradictionLaws {X : Type 0} (K : Operations) (S : System)
   pub refuted : (y : ℕ → ℕ) → ¬ SatisfiesAll K S y
   pub codes : (i : ℕ) → i < length S.rows → u i < K.q
   -- it tells its pivots and its questions, two more than two for each pivot
-  pub told : r.outcome ≡ contradiction_case (length r.rows) (length r.asked)
-  pub questions : length r.asked ≡ length r.rows + length r.rows + 2
+  pub told : r.outcome ≡ contradiction_case (length r.pivot_rows) (length r.exchanges)
+  pub questions : length r.exchanges ≡ length r.pivot_rows + length r.pivot_rows + 2
 
 -- the questions and answers of a run
 pub record AnswerLaws {X : Type 0} (K : Operations) (S : System)
     (M : ScoutMeaning X) (from : X) (r : Ran X) : Type 0 where
   -- the answers are the scout's
-  pub gave : Gave S M from r.asked r.scout
+  pub gave : Gave S M from r.exchanges r.scout
   -- every question hands over codes; they are of rows and of columns in turn, one or two more than
   -- two for each pivot
-  pub hand_codes : All (λ e. HandsCodes K S e.question) r.asked
-  pub turns : Alternate r.asked
-  pub counts : (length r.asked ≡ length r.rows + length r.rows + 1)
-      ⊎ (length r.asked ≡ length r.rows + length r.rows + 2)
+  pub hand_codes : All (λ e. HandsCodes K S e.question) r.exchanges
+  pub turns : Alternate r.exchanges
+  pub counts : (length r.exchanges ≡ length r.pivot_rows + length r.pivot_rows + 1)
+      ⊎ (length r.exchanges ≡ length r.pivot_rows + length r.pivot_rows + 2)
   -- the run fails exactly where one of the answers was false, which was the last, and tells what is
   -- false in it
-  pub failed : IsFailed r.outcome ↔ SomeFalse K S r.asked
-  pub before_true : ¬ SomeFalse K S (drop 1 r.asked)
-  pub tells : IsFailed r.outcome → FailureTells K S r.asked r.outcome.values
+  pub failed : IsFailed r.outcome ↔ SomeFalse K S r.exchanges
+  pub before_true : ¬ SomeFalse K S (drop 1 r.exchanges)
+  pub tells : IsFailed r.outcome → FailureTells K S r.exchanges r.outcome
   -- so it never fails with a scout whose answers are all true
   pub never_fails : ((state : X) (q : Asked) → ¬ FalseAnswer K S q (M.answer state S q)) →
       ¬ IsFailed r.outcome
@@ -101,12 +101,12 @@ pub record AnswerLaws {X : Type 0} (K : Operations) (S : System)
 -- the pivots of a run
 pub record FoundPivots {X : Type 0} (K : Operations) (S : System) (r : Ran X) : Type 0 where
   -- the pivot rows are independent, and so no more than the rank
-  pub independent : IndependentRows K (length S.rows) S.width (entry K S) r.rows
-  pub at_most_rank : length r.rows ≤ rank K (length S.rows) S.width (entry K S)
+  pub independent : IndependentRows K (length S.rows) S.width (entry K S) r.pivot_rows
+  pub at_most_rank : length r.pivot_rows ≤ rank K (length S.rows) S.width (entry K S)
   -- the pivot columns are different minutes of the hour, none of them 0 in every row, and as many
   -- as the pivot rows
-  pub columns : DifferentColumns K S r.columns
-  pub as_many : length r.columns ≡ length r.rows
+  pub columns : DifferentColumns K S r.pivot_columns
+  pub as_many : length r.pivot_columns ≡ length r.pivot_rows
 
 -- the laws of a run that has ended, where x and u are what stands in the record after it
 pub record RunLaws {X : Type 0} (K : Operations) (S : System)
@@ -123,7 +123,7 @@ pub record Settles {X : Type 0} (K : Operations) (S : System)
   pub defined : whole_run K S M from ≡ Some ran
   pub outcome : outcome_case o ≡ ran.outcome
   pub scout : to ≡ ran.scout
-  pub writes : Writes ran.outcome ran.asked f f'
+  pub writes : Writes ran.outcome ran.exchanges f f'
   pub laws : RunLaws K S M from ran (choice f'.minutes) (choice f'.blame)
 
 -- a settle is refused where the work space has under 8192 words

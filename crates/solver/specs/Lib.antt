@@ -2,7 +2,6 @@ pub mod Slices
 pub mod Questions
 pub mod Outcomes
 pub mod Scouts
-pub mod Pivots
 pub mod Runs
 pub mod Laws
 pub mod Profiling

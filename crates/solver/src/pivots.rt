@@ -34,7 +34,7 @@ impl<'a> PivotSpace<'a> {
     ghost use Rattle.algebra.specs.Pivots.{row_coefficients, solution, grow};
     ghost use Rattle.solver.specs.Slices.{IsVector};
     ghost use Rattle.solver.specs.Steps.Vectors.{Begins};
-    ghost use Rattle.solver.specs.Pivots.{sum_at};
+    ghost use Rattle.rows.specs.Systems.{sum_at};
     ghost use Rattle.solver.specs.Steps.Pivots.{RowWidened, RowsWidened, LastRow, SamePivots};
     ghost use Rattle.solver.specs.Steps.Spaces.{pivots_of, SamePlaces};
 

@@ -1,10 +1,10 @@
 //! The row rank profile of rows.
 ghost use Rattle.std.specs.Prelude.{◌≡◌, ◌<◌, length, IfOk, OnErr};
-ghost use Rattle.frame.specs.Refusals.{numbered_as};
+ghost use Rattle.frame.specs.Refusals.{refusal_only};
 ghost use Rattle.rows.specs.Values.{entry};
 ghost use Rattle.algebra.specs.Places.{Outside};
 ghost use Rattle.algebra.specs.Profiles.{with_row};
-ghost use Rattle.solver.specs.Pivots.{PivotsOfRows};
+ghost use Rattle.solver.specs.Steps.Pivots.{PivotsOfRows};
 ghost use Rattle.solver.specs.Profiling.{profile_answer, Profiles};
 ghost use Rattle.solver.specs.Steps.Pivots.{SamePivots};
 ghost use Rattle.solver.specs.Steps.Spaces.{pivots_of};
@@ -43,7 +43,7 @@ pub fn profile<F: Field, R: Rows>(
     work: &mut [u16],
     list: &mut [u16],
 ) -> Result<usize, Refusal>
-    ensures answer { numbered_as (λ _. tt) result
+    ensures answer { refusal_only result
         ≡ profile_answer (length work.old) (length list.old) }
     ensures profiles { IfOk result (Profiles F.ops (R.system rows.now) list.old list.new) }
     ensures work { OnErr result (work.new ≡ work.old) }

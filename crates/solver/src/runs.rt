@@ -1,11 +1,11 @@
 //! The run of a settle.
 ghost use Rattle.std.specs.Prelude.{◌≡◌, ◌≢◌, ℕ, ◌+◌, ◌<◌, List, length};
 ghost use Rattle.std.specs.Prelude.{Option, Some, None, IfOk, OnErr};
-ghost use Rattle.frame.specs.Refusals.{numbered_as};
+ghost use Rattle.frame.specs.Refusals.{refusal_only};
 ghost use Rattle.rows.specs.Values.{entry};
 ghost use Rattle.algebra.specs.Places.{Outside};
 ghost use Rattle.algebra.specs.Pivots.{Pivots, schur, row_coefficients};
-ghost use Rattle.solver.specs.Pivots.{PivotsOfRows};
+ghost use Rattle.solver.specs.Steps.Pivots.{PivotsOfRows};
 ghost use Rattle.solver.specs.Questions.{asked, TrueAnswer};
 ghost use Rattle.solver.specs.Outcomes.{outcome_case, IsFailed};
 ghost use Rattle.solver.specs.Scouts.{scan_meaning};
@@ -62,8 +62,8 @@ fn ask_rows<F: Field, R: Rows, S: Scout<F>>(
 ) -> Result<usize, Outcome>
     requires { PivotsOfRows F.ops (R.system rows.now) (pivots_of pivots.now) }
     ensures put { let P = pivots_of pivots.now in
-        (asked : List Exchange) → length asked ≡ P.count + P.count →
-        Put F.ops (R.system rows.now) S.meaning (state P None asked)
+        (exchanges : List Exchange) → length exchanges ≡ P.count + P.count →
+        Put F.ops (R.system rows.now) S.meaning (state P None exchanges)
         scout.old scout.new findings.old findings.new (ended result) }
     ensures there { IfOk result (λ i. i < length (R.system rows.now).rows) }
     ensures outside { IfOk result (Outside pivots.now.count (pivots_of pivots.now).row) }
@@ -97,8 +97,8 @@ fn ask_columns<F: Field, R: Rows, S: Scout<F>>(
         let A = entry F.ops (R.system rows.now) in
         Begins P.count (row_coefficients F.ops A P row) coefficients.now }
     ensures put { let P = pivots_of pivots.now in
-        (asked : List Exchange) → length asked ≡ P.count + P.count + 1 →
-        Put F.ops (R.system rows.now) S.meaning (state P (Some row) asked)
+        (exchanges : List Exchange) → length exchanges ≡ P.count + P.count + 1 →
+        Put F.ops (R.system rows.now) S.meaning (state P (Some row) exchanges)
         scout.old scout.new findings.old findings.new (ended result) }
     ensures below { IfOk result (λ j. j < (R.system rows.now).width) }
     ensures pivot { let A = entry F.ops (R.system rows.now) in
@@ -158,7 +158,7 @@ fn complete<F: Field, R: Rows, S: Scout<F>>(
 }
 
 /// Settles the rows: finds minutes that satisfy them all, or shows that none do, with pivots that
-/// the scout points to. What is found stands in the record: the minutes of a solved run, or the
+/// the scout names. What is found stands in the record: the minutes of a solved run, or the
 /// blame of a contradiction. Refuses a work space under 8192 words (6), and then changes nothing.
 /// What an accepted call leaves in the work space is left free.
 pub fn settle<F: Field, R: Rows, S: Scout<F>>(
@@ -167,7 +167,7 @@ pub fn settle<F: Field, R: Rows, S: Scout<F>>(
     work: &mut [u16],
     findings: &mut Findings,
 ) -> Result<Outcome, Refusal>
-    ensures answer { numbered_as (λ _. tt) result ≡ settle_answer (length work.old) }
+    ensures answer { refusal_only result ≡ settle_answer (length work.old) }
     ensures settles { IfOk result (Settles F.ops (R.system rows.now) S.meaning
         scout.old scout.new findings.old findings.new) }
     ensures scout { OnErr result (scout.new ≡ scout.old) }
@@ -188,7 +188,7 @@ pub fn settle_by_scan<F: Field, R: Rows>(
     work: &mut [u16],
     findings: &mut Findings,
 ) -> Result<Outcome, Refusal>
-    ensures answer { numbered_as (λ _. tt) result ≡ settle_answer (length work.old) }
+    ensures answer { refusal_only result ≡ settle_answer (length work.old) }
     ensures settles { (scan : Scan) →
         IfOk result (Settles F.ops (R.system rows.now) (scan_meaning F.ops)
         scan scan findings.old findings.new) }

@@ -33,6 +33,6 @@ only_choice K codes S M from to f f' count s complete e =
     let r = s.ran in
     let solved = s.laws.solved (ap (λ (c : Case). c.number) (sym s.outcome)) in
     let found = s.laws.pivots in
-    let pivots = solved_pivots count.pivots count.questions (length r.rows) (length r.asked) (s.outcome ∙ solved.told) in
+    let pivots = solved_pivots count.pivots count.questions (length r.pivot_rows) (length r.exchanges) (s.outcome ∙ solved.told) in
     let whole = eqb-true (count.pivots + noted_count codes) S.width (adds_up (count.pivots + noted_count codes == S.width) e) in
-    complete r.columns (choice f'.minutes) found.columns (omega (arith, found.as_many)) solved.determined
+    complete r.pivot_columns (choice f'.minutes) found.columns (omega (arith, found.as_many)) solved.determined

@@ -52,7 +52,7 @@ pub record WorkedFacts : Type 0 where
   pub profile : profile_of (modulo 65521) dependent_rows ≡ 0 ∷ 2 ∷ []
   -- the settle of the three rows ends, after six questions and with two pivots, with this contradiction
   pub contradiction : option_map (λ r. r.outcome) (settled three_rows) ≡ Some (contradiction_case 2 6)
-  pub blame : option_map (λ r. last_codes r.asked) (settled three_rows) ≡ Some (65520 ∷ 65520 ∷ 1 ∷ [])
+  pub blame : option_map (λ r. last_codes r.exchanges) (settled three_rows) ≡ Some (65520 ∷ 65520 ∷ 1 ∷ [])
   -- the numbers that constants name: terms of a frame, minutes of a frame and of an hour, rows of a ledger, words of a work space
   pub most_terms : MOST_TERMS ≡ 16
   pub minutes : MINUTES ≡ 64

@@ -4,7 +4,13 @@ use Rattle.std.proofs.Props.{props}
 use Prim.{IsProp}
 use Rattle.field.specs.Operations.{Operations}
 use Rattle.rows.specs.declared.sizes.TheConstants.{MOST_MINUTES, MOST_ROWS}
-use Rattle.algebra.specs.Pivots.{Pivots}
+use Rattle.rows.specs.Systems.{System}
+use Rattle.rows.specs.Values.{entry}
+use Rattle.algebra.specs.Pivots.{Pivots, PivotsOf}
+
+-- pivots of the rows' matrix
+abbrev pub PivotsOfRows : Operations → System → Pivots → Type 0
+PivotsOfRows K S P = PivotsOf K (length S.rows) S.width (entry K S) P
 
 -- where row k of the inverse has its word l: each row stands in 64 words
 abbrev pub place_of : ℕ → ℕ → ℕ

@@ -10,5 +10,5 @@ pivots_of s = pivots_in s.count s.pivot_rows.now s.pivot_columns.now s.inverse.n
 -- it holds the same places, and maybe another inverse
 pub record SamePlaces (s t : PivotSpace) : Type 0 where
   pub count : t.count ≡ s.count
-  pub rows : t.pivot_rows.now ≡ s.pivot_rows.now
-  pub columns : t.pivot_columns.now ≡ s.pivot_columns.now
+  pub pivot_rows : t.pivot_rows.now ≡ s.pivot_rows.now
+  pub pivot_columns : t.pivot_columns.now ≡ s.pivot_columns.now

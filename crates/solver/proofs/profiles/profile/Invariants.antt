@@ -1,4 +1,4 @@
--- The rows below the counter have been looked at. Assumes nothing.
+-- The elimination of the rows below the counter is done. Assumes nothing.
 use Rattle.rows.specs.Values.{entry}
 use Rattle.algebra.specs.Profiles.{eliminate}
 use Rattle.solver.specs.Steps.Pivots.{SamePivots}

@@ -11,23 +11,23 @@ use Rattle.solver.proofs.Puts.{same_counts}
 use Rattle.solver.proofs.runs.ask_columns.Goals as goal
 
 pub returns-in_err-minute-clause-put : goal.returns-in_err-minute-clause-put
-returns-in_err-minute-clause-put g c asked many =
+returns-in_err-minute-clause-put g c exchanges many =
     let S = g.R.Rows.system c.args.rows.now in
     let P = pivots_of c.args.pivots.now in
     let same = columns_asked (lawful g.F.Field.ops g.met.F.Field.laws) S (g.met.R.Rows.formed c.args.rows.now) P c.requires.pivots c.args.row c.args.coefficients.now c.multipliers-u.result c.row_count.result c.row_count.ensures c.requires.outside c.requires.coefficients c.multipliers-u.ensures in
     let o = c.in_err-minute.field-0.0 in
     let ends : c.from_residual.result ≡ Err o = search (rules, tests) in
-    subst (λ r. Put g.F.Field.ops S g.S.Scout.meaning (state P (Some c.args.row) asked) c.args.scout.now c.put.new.scout c.args.findings.now c.args.findings.now (ended r)) (sym ends)
-    ((c.put.ensures.continues P (Some c.args.row) asked same (omega (arith, c.count.ensures, many))).failed (outcome_case o) c.args.findings.now (ap ended c.in_err-minute.was))
+    subst (λ r. Put g.F.Field.ops S g.S.Scout.meaning (state P (Some c.args.row) exchanges) c.args.scout.now c.put.new.scout c.args.findings.now c.args.findings.now (ended r)) (sym ends)
+    ((c.put.ensures.continues P (Some c.args.row) exchanges same (omega (arith, c.count.ensures, many))).failed (outcome_case o) c.args.findings.now (ap ended c.in_err-minute.was))
 
 pub returns-in_default-clause-put : goal.returns-in_default-clause-put
-returns-in_default-clause-put g c asked many =
+returns-in_default-clause-put g c exchanges many =
     let P = pivots_of c.args.pivots.now in
     let same = columns_asked (lawful g.F.Field.ops g.met.F.Field.laws) (g.R.Rows.system c.args.rows.now) (g.met.R.Rows.formed c.args.rows.now) P c.requires.pivots c.args.row c.args.coefficients.now c.multipliers-u.result c.row_count.result c.row_count.ensures c.requires.outside c.requires.coefficients c.multipliers-u.ensures in
     let f = c.args.findings.now in
     let f' = c.write_blame.new.self in
-    (c.put.ensures.continues P (Some c.args.row) asked same (omega (arith, c.count.ensures, many))).none _ f f' (ap ended (c.in_ok-minute.was ∙ ap Ok c.in_default.is))
-    (same_counts contradiction_case c.count-in_default.result P.count (2 * c.count.result + 2) (suc (length asked)) c.count-in_default.ensures (omega (arith, c.count.ensures, many)))
+    (c.put.ensures.continues P (Some c.args.row) exchanges same (omega (arith, c.count.ensures, many))).none _ f f' (ap ended (c.in_ok-minute.was ∙ ap Ok c.in_default.is))
+    (same_counts contradiction_case c.count-in_default.result P.count (2 * c.count.result + 2) (suc (length exchanges)) c.count-in_default.ensures (omega (arith, c.count.ensures, many)))
     (record {
       minutes = λ e. absurd (omega arith);
       blame = λ _. (c.write_blame.ensures.minutes, subst (λ us. Filled (length us) (choice us) f.blame f'.blame) (ap question_codes same) c.write_blame.ensures.blame);
@@ -35,10 +35,10 @@ returns-in_default-clause-put g c asked many =
     })
 
 pub returns-clause-put : goal.returns-clause-put
-returns-clause-put g c asked many =
+returns-clause-put g c exchanges many =
     let P = pivots_of c.args.pivots.now in
     let same = columns_asked (lawful g.F.Field.ops g.met.F.Field.laws) (g.R.Rows.system c.args.rows.now) (g.met.R.Rows.formed c.args.rows.now) P c.requires.pivots c.args.row c.args.coefficients.now c.multipliers-u.result c.row_count.result c.row_count.ensures c.requires.outside c.requires.coefficients c.multipliers-u.ensures in
-    (c.put.ensures.continues P (Some c.args.row) asked same (omega (arith, c.count.ensures, many))).named c.in-Some.minute c.args.findings.now (ap ended (c.in_ok-minute.was ∙ ap Ok c.in-Some.is))
+    (c.put.ensures.continues P (Some c.args.row) exchanges same (omega (arith, c.count.ensures, many))).named c.in-Some.minute c.args.findings.now (ap ended (c.in_ok-minute.was ∙ ap Ok c.in-Some.is))
 
 pub returns-clause-below : goal.returns-clause-below
 returns-clause-below g c =

@@ -11,23 +11,23 @@ use Rattle.solver.proofs.Puts.{same_counts}
 use Rattle.solver.proofs.runs.ask_rows.Goals as goal
 
 pub returns-in_err-row-clause-put : goal.returns-in_err-row-clause-put
-returns-in_err-row-clause-put g c asked many =
+returns-in_err-row-clause-put g c exchanges many =
     let S = g.R.Rows.system c.args.rows.now in
     let P = pivots_of c.args.pivots.now in
     let same = rows_asked (lawful g.F.Field.ops g.met.F.Field.laws) S (g.met.R.Rows.formed c.args.rows.now) P c.requires c.solution-x.result c.width.result c.width.ensures c.solution-x.ensures in
     let o = c.in_err-row.field-0.0 in
     let ends : c.from_residual.result ≡ Err o = search (rules, tests) in
-    subst (λ r. Put g.F.Field.ops S g.S.Scout.meaning (state P None asked) c.args.scout.now c.put.new.scout c.args.findings.now c.args.findings.now (ended r)) (sym ends)
-    ((c.put.ensures.continues P None asked same (omega (arith, c.count.ensures, many))).failed (outcome_case o) c.args.findings.now (ap ended c.in_err-row.was))
+    subst (λ r. Put g.F.Field.ops S g.S.Scout.meaning (state P None exchanges) c.args.scout.now c.put.new.scout c.args.findings.now c.args.findings.now (ended r)) (sym ends)
+    ((c.put.ensures.continues P None exchanges same (omega (arith, c.count.ensures, many))).failed (outcome_case o) c.args.findings.now (ap ended c.in_err-row.was))
 
 pub returns-in_default-clause-put : goal.returns-in_default-clause-put
-returns-in_default-clause-put g c asked many =
+returns-in_default-clause-put g c exchanges many =
     let P = pivots_of c.args.pivots.now in
     let same = rows_asked (lawful g.F.Field.ops g.met.F.Field.laws) (g.R.Rows.system c.args.rows.now) (g.met.R.Rows.formed c.args.rows.now) P c.requires c.solution-x.result c.width.result c.width.ensures c.solution-x.ensures in
     let f = c.args.findings.now in
     let f' = c.write_minutes.new.self in
-    (c.put.ensures.continues P None asked same (omega (arith, c.count.ensures, many))).none _ f f' (ap ended (c.in_ok-row.was ∙ ap Ok c.in_default.is))
-    (same_counts solved_case c.count-in_default.result P.count (2 * c.count.result + 1) (suc (length asked)) c.count-in_default.ensures (omega (arith, c.count.ensures, many)))
+    (c.put.ensures.continues P None exchanges same (omega (arith, c.count.ensures, many))).none _ f f' (ap ended (c.in_ok-row.was ∙ ap Ok c.in_default.is))
+    (same_counts solved_case c.count-in_default.result P.count (2 * c.count.result + 1) (suc (length exchanges)) c.count-in_default.ensures (omega (arith, c.count.ensures, many)))
     (record {
       minutes = λ _. (subst (λ xs. Filled (length xs) (choice xs) f.minutes f'.minutes) (ap question_codes same) c.write_minutes.ensures.minutes, c.write_minutes.ensures.blame);
       blame = λ e. absurd (omega arith);
@@ -35,10 +35,10 @@ returns-in_default-clause-put g c asked many =
     })
 
 pub returns-clause-put : goal.returns-clause-put
-returns-clause-put g c asked many =
+returns-clause-put g c exchanges many =
     let P = pivots_of c.args.pivots.now in
     let same = rows_asked (lawful g.F.Field.ops g.met.F.Field.laws) (g.R.Rows.system c.args.rows.now) (g.met.R.Rows.formed c.args.rows.now) P c.requires c.solution-x.result c.width.result c.width.ensures c.solution-x.ensures in
-    (c.put.ensures.continues P None asked same (omega (arith, c.count.ensures, many))).named c.in-Some.row c.args.findings.now (ap ended (c.in_ok-row.was ∙ ap Ok c.in-Some.is))
+    (c.put.ensures.continues P None exchanges same (omega (arith, c.count.ensures, many))).named c.in-Some.row c.args.findings.now (ap ended (c.in_ok-row.was ∙ ap Ok c.in-Some.is))
 
 pub returns-clause-there : goal.returns-clause-there
 returns-clause-there g c =

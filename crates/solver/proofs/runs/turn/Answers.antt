@@ -10,17 +10,17 @@ use Rattle.solver.proofs.Running.{ends_at_rows, further, ends_at_columns, turns,
 use Rattle.solver.proofs.runs.turn.Goals as goal
 
 pub returns-in_err-row-clause-turned : goal.returns-in_err-row-clause-turned
-returns-in_err-row-clause-turned g c asked left many =
+returns-in_err-row-clause-turned g c exchanges left many =
     let F = lawful g.F.Field.ops g.met.F.Field.laws in
     let S = g.R.Rows.system c.args.rows.now in
     let P = pivots_of c.args.pivots.now in
     let o = c.in_err-row.field-0.0 in
     let ends : c.from_residual.result ≡ Err o = search (rules, tests) in
     match_err _ _ (ended c.from_residual.result) (outcome_case o) (ap ended ends)
-    (ends_at_rows F S g.S.Scout.meaning P asked left c.args.scout.now c.ask_rows.new.scout c.args.findings.now c.ask_rows.new.findings (outcome_case o) (c.in_err-row.ensures.put asked many))
+    (ends_at_rows F S g.S.Scout.meaning P exchanges left c.args.scout.now c.ask_rows.new.scout c.args.findings.now c.ask_rows.new.findings (outcome_case o) (c.in_err-row.ensures.put exchanges many))
 
 pub returns-in_err-minute-clause-turned : goal.returns-in_err-minute-clause-turned
-returns-in_err-minute-clause-turned g c asked left many =
+returns-in_err-minute-clause-turned g c exchanges left many =
     let F = lawful g.F.Field.ops g.met.F.Field.laws in
     let S = g.R.Rows.system c.args.rows.now in
     let P = pivots_of c.args.pivots.now in
@@ -29,10 +29,10 @@ returns-in_err-minute-clause-turned g c asked left many =
     let from = c.args.scout.now in
     let mid = c.ask_rows.new.scout in
     let to = c.ask_columns.new.scout in
-    let asked' = further F S g.S.Scout.meaning P asked left from mid to c.args.findings.now c.ask_rows.new.findings c.ask_columns.new.findings i (c.in_ok-row.ensures.put asked many) in
+    let exchanges' = further F S g.S.Scout.meaning P exchanges left from mid to c.args.findings.now c.ask_rows.new.findings c.ask_columns.new.findings i (c.in_ok-row.ensures.put exchanges many) in
     let ends : c.from_residual-in_err-minute.result ≡ Err o = search (rules, tests) in
     match_err _ _ (ended c.from_residual-in_err-minute.result) (outcome_case o) (ap ended ends)
-    (ends_at_columns F S g.S.Scout.meaning P asked left from mid to c.args.findings.now c.ask_rows.new.findings c.ask_columns.new.findings i (c.in_ok-row.ensures.put asked many) (outcome_case o) (c.in_err-minute.ensures.put asked' (omega (arith, many))))
+    (ends_at_columns F S g.S.Scout.meaning P exchanges left from mid to c.args.findings.now c.ask_rows.new.findings c.ask_columns.new.findings i (c.in_ok-row.ensures.put exchanges many) (outcome_case o) (c.in_err-minute.ensures.put exchanges' (omega (arith, many))))
 
 pub grow-requires : goal.grow-requires
 grow-requires g c =
@@ -45,7 +45,7 @@ grow-requires g c =
     record { room = omega (arith, formed.few_minutes); row = omega (arith, formed.few_rows); minute = omega (arith, formed.few_minutes) }
 
 pub returns-clause-turned : goal.returns-clause-turned
-returns-clause-turned g c asked left many =
+returns-clause-turned g c exchanges left many =
     let F = lawful g.F.Field.ops g.met.F.Field.laws in
     let S = g.R.Rows.system c.args.rows.now in
     let P = pivots_of c.args.pivots.now in
@@ -53,10 +53,10 @@ returns-clause-turned g c asked left many =
     let from = c.args.scout.now in
     let mid = c.ask_rows.new.scout in
     let to = c.ask_columns.new.scout in
-    let rows = c.in_ok-row.ensures.put asked many in
-    let asked' = further F S g.S.Scout.meaning P asked left from mid to c.args.findings.now c.ask_rows.new.findings c.ask_columns.new.findings i rows in
-    turns F S g.S.Scout.meaning P asked left from mid to c.args.findings.now c.ask_rows.new.findings c.ask_columns.new.findings i rows (pivots_of c.grow.new.self) c.in_ok-minute.minute
-    (c.in_ok-minute.ensures.put asked' (omega (arith, many)))
+    let rows = c.in_ok-row.ensures.put exchanges many in
+    let exchanges' = further F S g.S.Scout.meaning P exchanges left from mid to c.args.findings.now c.ask_rows.new.findings c.ask_columns.new.findings i rows in
+    turns F S g.S.Scout.meaning P exchanges left from mid to c.args.findings.now c.ask_rows.new.findings c.ask_columns.new.findings i rows (pivots_of c.grow.new.self) c.in_ok-minute.minute
+    (c.in_ok-minute.ensures.put exchanges' (omega (arith, many)))
     (c.grow.ensures c.row_coefficients-coefficients.ensures)
     many
 

@@ -32,5 +32,5 @@ returns g c zs =
     (same_z F A s old.pivot_rows.now old.pivot_columns.now old.inverse.now old.fit i j z column y zs c.column-column.ensures c.times-y.ensures)
     pivot wide.inverse.now new.inverse.now c.widen.ensures.widened last c.requires.room in
     subst (λ n. SamePivots (pivots_in (n + 1) (slice_set new.pivot_rows.now n i) (slice_set new.pivot_columns.now n j) new.inverse.now) T) (sym (kept.count ∙ kept_before.count))
-    (subst (λ rows. SamePivots (pivots_in (s + 1) (slice_set rows s i) (slice_set new.pivot_columns.now s j) new.inverse.now) T) (sym (kept.rows ∙ kept_before.rows))
-    (subst (λ columns. SamePivots (pivots_in (s + 1) (slice_set old.pivot_rows.now s i) (slice_set columns s j) new.inverse.now) T) (sym (kept.columns ∙ kept_before.columns)) held))
+    (subst (λ rows. SamePivots (pivots_in (s + 1) (slice_set rows s i) (slice_set new.pivot_columns.now s j) new.inverse.now) T) (sym (kept.pivot_rows ∙ kept_before.pivot_rows))
+    (subst (λ columns. SamePivots (pivots_in (s + 1) (slice_set old.pivot_rows.now s i) (slice_set columns s j) new.inverse.now) T) (sym (kept.pivot_columns ∙ kept_before.pivot_columns)) held))

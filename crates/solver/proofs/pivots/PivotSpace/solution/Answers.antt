@@ -1,7 +1,7 @@
 use Rattle.std.proofs.Common.{arith, slice_index}
 use Rattle.field.specs.LawsForAll.{lawful}
 use Rattle.solver.specs.Steps.Spaces.{pivots_of}
-use Rattle.solver.specs.Pivots.{sum_at}
+use Rattle.rows.specs.Systems.{sum_at}
 use Rattle.solver.proofs.Placing.{placed_taken}
 use Rattle.solver.proofs.Steps.{solution_held}
 use Rattle.solver.proofs.pivots.PivotSpace.solution.Goals as goal

@@ -1,6 +1,6 @@
 use Rattle.std.proofs.Common.{ap, arith, ◌∙◌}
 use Rattle.std.specs.Option.{unwrap_or}
-use Rattle.solver.specs.Pivots.{sum_at}
+use Rattle.rows.specs.Systems.{sum_at}
 use Rattle.solver.specs.Steps.Spaces.{pivots_of}
 use Rattle.solver.proofs.Filling.{filled_next}
 use Rattle.solver.proofs.Readings.{sum_read}

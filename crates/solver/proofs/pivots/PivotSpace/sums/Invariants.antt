@@ -1,6 +1,6 @@
 -- The places below the counter are done. Assumes nothing.
 use Rattle.field.specs.Slices.{Filled}
-use Rattle.solver.specs.Pivots.{sum_at}
+use Rattle.rows.specs.Systems.{sum_at}
 use Rattle.solver.specs.Steps.Spaces.{pivots_of}
 use Rattle.solver.proofs.pivots.PivotSpace.sums.Given as goal
 
