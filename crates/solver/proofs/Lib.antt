@@ -15,3 +15,4 @@ pub mod Running
 pub mod RunLaws
 pub mod Completing
 pub mod Eliminating
+pub mod Cases

@@ -1,6 +1,6 @@
 //! How a run ends.
 ghost use Rattle.std.specs.Prelude.{◌≡◌};
-ghost use Rattle.solver.specs.Outcomes.{extent_case, extent_of};
+ghost use Rattle.solver.specs.Outcomes.{outcome_case, extent_case, extent_of};
 
 use crate::faults::Fault;
 use crate::questions::Side;
@@ -54,3 +54,10 @@ pub enum Outcome {
     /// an answer was false
     Failed(Failure),
 }
+
+/// A law: no two outcomes, and no two extents, have the same number and values. The call does
+/// nothing.
+pub fn outcomes_are_told_apart()
+    ensures outcomes { (a b : Outcome) → outcome_case a ≡ outcome_case b → a ≡ b }
+    ensures extents { (a b : Extent) → extent_case a ≡ extent_case b → a ≡ b }
+{}

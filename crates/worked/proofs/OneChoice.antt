@@ -1,6 +1,5 @@
 -- Where a settle under notes is whole there is one choice. Assumes nothing.
-use Rattle.std.proofs.Common.{◌≡◌, ℕ, ◌+◌, ◌==◌, Bool, true, false, cond, List, ◌∷◌, [], length, Option, sym, refl, ap, ◌∙◌, arith}
-use Rattle.std.proofs.lemmas.Bool.{eqb-true}
+use Rattle.std.proofs.Common.{◌≡◌, ℕ, List, ◌∷◌, [], length, Option, sym, refl, ap, ◌∙◌, arith}
 use Rattle.field.specs.Operations.{Operations}
 use Rattle.rows.specs.Systems.{System}
 use Rattle.rows.specs.Values.{choice}
@@ -8,15 +7,11 @@ use Rattle.notes.specs.Notes.{noted_count, system_under, NotesComplete, OnlyChoi
 use Rattle.solver.specs.declared.findings.Findings.{Findings}
 use Rattle.solver.specs.declared.outcomes.Count.{Count}
 use Rattle.solver.specs.declared.outcomes.Outcome.TheVariants.{Solved}
-use Rattle.solver.specs.declared.outcomes.Extent.TheVariants.{Whole, Part}
+use Rattle.solver.specs.declared.outcomes.Extent.TheVariants.{Whole}
 use Rattle.solver.specs.Outcomes.{Case, solved_case, extent_case, extent_of}
 use Rattle.solver.specs.Scouts.{ScoutMeaning}
 use Rattle.solver.specs.Laws.{Settles}
-
--- whole is pivots and notes that add up to the width
-adds_up : (b : Bool) → extent_case Whole ≡ cond b (extent_case Whole) (extent_case Part) → b ≡ true
-adds_up true e = refl
-adds_up false e = let z : ◌≡◌ {A = ℕ} 1 2 = ap (λ (c : Case). c.number) e in absurd (omega arith)
+use Rattle.solver.proofs.Cases.{whole_adds_up}
 
 -- a case's first value
 first_value : List ℕ → ℕ
@@ -34,5 +29,5 @@ only_choice K codes S M from to f f' count s complete e =
     let solved = s.laws.solved (ap (λ (c : Case). c.number) (sym s.outcome)) in
     let found = s.laws.pivots in
     let pivots = solved_pivots count.pivots count.questions (length r.pivot_rows) (length r.exchanges) (s.outcome ∙ solved.told) in
-    let whole = eqb-true (count.pivots + noted_count codes) S.width (adds_up (count.pivots + noted_count codes == S.width) e) in
+    let whole = whole_adds_up count.pivots (noted_count codes) S.width e in
     complete r.pivot_columns (choice f'.minutes) found.columns (omega (arith, found.as_many)) solved.determined
