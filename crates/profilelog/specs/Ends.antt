@@ -16,4 +16,4 @@ named_field Octets = octets
 -- the report on the hour that was opened; nothing where none was
 abbrev pub EndsWith : Option OpenHour → List ℕ → Type 0
 EndsWith None text = text ≡ []
-EndsWith (Some h) text = Reports (named_field h.field) h.system 0 text
+EndsWith (Some h) text = Reports (named_field h.field) h.system text

@@ -4,6 +4,7 @@ use Rattle.frame.specs.Refusals.{RefusalCase}
 use Rattle.lines.specs.declared.openings.FieldName.{FieldName}
 use Rattle.lines.specs.declared.openings.Opening.{Opening}
 use Rattle.lines.specs.Reading.{map_ok}
+use Rattle.rows.specs.declared.sizes.TheConstants.{MOST_MINUTES, MOST_ROWS}
 use Rattle.rows.specs.Sizes.{size_answer}
 use Rattle.rows.specs.Systems.{Row, System}
 use Rattle.rows.specs.Ledgers.{take_answer, after_take}
@@ -15,8 +16,8 @@ pub record OpenHour : Type 0 where
 
 -- the hour that is opened, for a width of 1 to 64: it has no rows
 abbrev pub opened : Opening → Result OpenHour RefusalCase
-opened o = map_ok (λ width. record { field = o.field; system = record { width = width; rows = [] } }) (size_answer 64 o.width)
+opened o = map_ok (λ width. record { field = o.field; system = record { width = width; rows = [] } }) (size_answer MOST_MINUTES o.width)
 
 -- what a table takes of a row: it has room for 96
 abbrev pub filled : OpenHour → Row → OpenHour
-filled h r = record { field = h.field; system = after_take (take_answer h.system 96 r) h.system r }
+filled h r = record { field = h.field; system = after_take (take_answer h.system MOST_ROWS r) h.system r }

@@ -10,6 +10,7 @@ use Rattle.lines.specs.Entries.{Said, opens, carries, read_entry}
 use Rattle.lines.specs.Kinds.{line_kind}
 use Rattle.lines.specs.Reading.{Content, map_ok, and_then}
 use Rattle.lines.proofs.Fronts.{front_kind, front_entry}
+use Rattle.rows.specs.declared.sizes.TheConstants.{MOST_ROWS}
 use Rattle.rows.specs.Systems.{Row}
 use Rattle.rows.specs.Ledgers.{take_answer}
 use Rattle.framelog.specs.Machines.{Machine, KnowsFronts}
@@ -42,7 +43,7 @@ after_open hour o = opened_or (opened o) hour
 -- a frame's row goes into the hour: the answer is its number
 abbrev pub frame_answer : Option OpenHour → Row → Result ℕ RefusalCase
 frame_answer None r = Err (refused 13 0)
-frame_answer (Some h) r = take_answer h.system 96 r
+frame_answer (Some h) r = take_answer h.system MOST_ROWS r
 
 abbrev pub after_frame : Option OpenHour → Row → Option OpenHour
 after_frame None r = None

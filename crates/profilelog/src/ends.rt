@@ -16,8 +16,8 @@ fn report_hour(heap: Global, hour: &Hour) -> Result<String, AllocError>
     ensures { MatchResult result (λ text. EndsWith (Some hour.now) (string_bytes text)) (λ e. ⊤) }
 {
     match hour.field() {
-        FieldName::Prime => report_on::<Prime, _>(heap, hour.rows(), 0),
-        FieldName::Octets => report_on::<Octets, _>(heap, hour.rows(), 0),
+        FieldName::Prime => report_on::<Prime, _>(heap, hour.rows()),
+        FieldName::Octets => report_on::<Octets, _>(heap, hour.rows()),
     }
 }
 

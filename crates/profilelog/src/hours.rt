@@ -10,7 +10,7 @@ use frame::refusals::Refusal;
 use lines::openings::{FieldName, Opening};
 use rows::ledgers::Ledger;
 use rows::reading::Rows;
-use rows::sizes::Width;
+use rows::sizes::{MOST_ROWS, Width};
 use rows::tables::Table;
 use std::marker::Model;
 
@@ -66,7 +66,7 @@ impl Hour {
 
     // Appends a frame as the last row and returns its number, as a table does.
     pub fn take(&mut self, frame: &Frame<'_>) -> Result<usize, Refusal>
-        ensures answer { numbered result ≡ take_answer self.old.system 96 (row_of frame.now) }
+        ensures answer { numbered result ≡ take_answer self.old.system MOST_ROWS (row_of frame.now) }
         ensures after { self.new ≡ filled self.old (row_of frame.now) }
     {
         self.rows.take(frame)

@@ -1,12 +1,14 @@
 //! The report on rows.
 ghost use Rattle.std.specs.Prelude.{◌≡◌, ◌≤◌, IfOk, take};
 ghost use Rattle.std.specs.String.{string_bytes};
-ghost use Rattle.reports.specs.Reports.{written, ScanSettles, Reports};
+ghost use Rattle.notes.specs.Layers.{codes_in, system_below};
+ghost use Rattle.reports.specs.Reports.{shown, ScanSettles, report_text, Reports, ReportsNoted};
 ghost use Rattle.solver.specs.Profiling.{profile_of};
 
 use crate::numbers::Numbers;
 use crate::outcomes::OutcomeText;
 use field::fields::Field;
+use notes::layers::Noted;
 use rows::reading::Rows;
 use rows::sizes::MOST_ROWS;
 use solver::findings::Findings;
@@ -27,9 +29,10 @@ pub struct Report<'a> {
 /// Each in a line of its own.
 impl fmt::Display for Report<'_> {
     ghost use Rattle.std.specs.Prelude.{Some};
-    ghost use Rattle.reports.specs.Reports.{report_text};
+    ghost use Rattle.reports.specs.Reports.{lines_text};
 
-    ghost output = { λ report. Some (report_text report.profile.now report.settle.outcome report.settle.noted report.settle.width report.settle.codes.now) };
+    ghost output = { λ report. let settle = report.settle in
+        Some (lines_text report.profile.now settle.outcome settle.noted settle.width settle.codes.now) };
 
     fn fmt<W: fmt::Write>(&self, f: &mut fmt::Formatter<W>) -> fmt::Result {
         let count = self.profile.len();
@@ -41,9 +44,10 @@ impl fmt::Display for Report<'_> {
     }
 }
 
-// The codes that a run of these rows has written.
-fn written<'a, R: Rows>(outcome: Outcome, rows: &R, findings: &'a Findings) -> &'a [u16]
-    ensures { result.now ≡ written outcome (R.system rows.now) findings.now }
+// The codes that are reported of a run of these rows.
+fn shown<'a, R: Rows>(outcome: Outcome, rows: &R, findings: &'a Findings) -> &'a [u16]
+    ensures { result.now
+        ≡ shown outcome (R.system rows.now) findings.now.minutes findings.now.blame }
 {
     match outcome {
         Outcome::Solved(_) => &findings.minutes[..rows.width()],
@@ -58,7 +62,7 @@ fn profiled<F: Field, R: Rows>(
     work: &mut [u16; WORK_WORDS],
     list: &mut [u16; MOST_ROWS],
 ) -> usize
-    ensures few { result ≤ 96 }
+    ensures few { result ≤ MOST_ROWS }
     ensures profile { take result list.new ≡ profile_of F.ops (R.system rows.now) }
 {
     // The work space and the list are long enough, so this does not refuse.
@@ -75,28 +79,55 @@ fn settled<F: Field, R: Rows>(rows: &R, work: &mut [u16; WORK_WORDS]) -> (Outcom
     (outcome, findings)
 }
 
-/// A line with the row rank profile, the rows that carry something new, and a line with how the rows settle by the scan. Of
-/// the minutes so many are noted, and count towards a whole hour. Fails for want of memory alone.
-pub fn report_on<F: Field, R: Rows>(
+// The text of a report on rows that settled so, with so many noted minutes.
+fn text_of<F: Field, R: Rows>(
     heap: Global,
     rows: &R,
     noted: usize,
+    outcome: Outcome,
+    findings: &Findings,
 ) -> Result<String, AllocError>
-    ensures { IfOk result (λ text. Reports F.ops (R.system rows.now) noted (string_bytes text)) }
+    ensures { let f = findings.now in
+        let text = report_text F.ops (R.system rows.now) outcome noted f.minutes f.blame in
+        IfOk result (λ string. string_bytes string ≡ text) }
 {
     let mut work = [0; WORK_WORDS];
     let mut list = [0; MOST_ROWS];
     let count = profiled::<F, R>(rows, &mut work, &mut list);
-    let (outcome, findings) = settled::<F, R>(rows, &mut work);
     let settle = OutcomeText {
         outcome,
         noted,
         width: rows.width(),
-        codes: written(outcome, rows, &findings),
+        codes: shown(outcome, rows, findings),
     };
     let report = Report {
         profile: &list[..count],
         settle,
     };
     report.to_string(heap)
+}
+
+/// A line with the row rank profile, the rows that carry something new, and a line with how the rows
+/// settle by the scan. Fails for want of memory alone.
+pub fn report_on<F: Field, R: Rows>(heap: Global, rows: &R) -> Result<String, AllocError>
+    ensures { IfOk result (λ text. Reports F.ops (R.system rows.now) (string_bytes text)) }
+{
+    let mut work = [0; WORK_WORDS];
+    let (outcome, findings) = settled::<F, R>(rows, &mut work);
+    text_of::<F, R>(heap, rows, 0, outcome, &findings)
+}
+
+/// The same of rows under notes: noted minutes count towards a whole hour, and a noted minute is
+/// reported with its code.
+pub fn report_noted<F: Field, R: Rows>(
+    heap: Global,
+    noted: &Noted<F, R>,
+) -> Result<String, AllocError>
+    ensures { let codes = codes_in noted.now in
+        IfOk result (λ text. ReportsNoted F.ops codes (system_below noted.now) (string_bytes text)) }
+{
+    let mut work = [0; WORK_WORDS];
+    let (outcome, mut findings) = settled::<F, Noted<F, R>>(noted, &mut work);
+    noted.put_in(&mut findings.minutes);
+    text_of::<F, Noted<F, R>>(heap, noted, noted.noted_count(), outcome, &findings)
 }

@@ -10,7 +10,7 @@ use frame::refusals::Refusal;
 use frame::terms::Term;
 use notes::layers::Noted;
 use reports::outcomes::OutcomeText;
-use reports::reports::report_on;
+use reports::reports::report_noted;
 use rows::reading::Rows;
 use rows::tables::Table;
 use solver::faults::Fault;
@@ -193,8 +193,8 @@ fn an_hour_that_is_all_notes_settles(rt: HostRuntime) -> Result<(), Fail> {
     let mut x = [0; 2];
     noted.put_in(&mut x);
     assert_eq!(rt; x, [5, 7]);
-    let report = report_on::<Prime, Noted<Prime, Table>>(rt.alloc(), &noted, noted.noted_count())?;
-    assert!(rt; report.as_bytes() == b"profile,0\nsolved,whole,0,1,0,0\n".as_slice());
+    let report = report_noted(rt.alloc(), &noted)?;
+    assert!(rt; report.as_bytes() == b"profile,0\nsolved,whole,0,1,5,7\n".as_slice());
     let mut work = [0; 8192];
     assert_eq!(rt;
         settle_noted(&noted, &mut Scan, &mut work, &mut used_record()),

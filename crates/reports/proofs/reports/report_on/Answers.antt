@@ -4,5 +4,4 @@ use Rattle.reports.proofs.reports.report_on.Goals as goal
 
 pub returns : goal.returns
 returns g c =
-    reported string_bytes g.F.Field.ops (g.R.Rows.system c.args.rows.now) c.args.noted c.settled-outcome.result.0 c.settled-outcome.result.1 c.settled-outcome.ensures
-    _ c.width.result c.written.result.now c.profiled-count.ensures.profile c.width.ensures c.written.ensures c.to_string.result c.to_string.ensures.ok
+    reported string_bytes g.F.Field.ops (g.R.Rows.system c.args.rows.now) c.settled-outcome.result.0 c.settled-outcome.result.1 c.settled-outcome.ensures c.text_of.result c.text_of.ensures
