@@ -1,5 +1,7 @@
 -- What makes terms a frame, as a check and in plain words. Assumes nothing.
-use Rattle.std.specs.Prelude.{◌≡◌, ℕ, zero, suc, ◌<◌, ◌≤◌, ◌⊎◌, ◌||◌, cond, List, [], ◌∷◌, length, Some, None, Ok, Option, Result, ◌==◌, ◌≢◌, nat_le, nat_lt, slice_index_or}
+use Rattle.std.specs.Prelude.{◌≡◌, ℕ, zero, suc, ◌<◌, ◌≤◌, ◌⊎◌, ◌||◌, cond, List, [], ◌∷◌, length}
+use Rattle.std.specs.Prelude.{Some, None, Ok, Option, Result, ◌==◌, ◌≢◌, nat_le, nat_lt}
+use Rattle.std.specs.Prelude.{slice_index_or}
 use Rattle.std.specs.List.{position_from}
 use Rattle.std.proofs.Props.{props}
 use Rattle.frame.specs.declared.terms.Term.{Term}
@@ -17,8 +19,8 @@ minute_at ts k = (slice_index_or ts k no_term).minute
 abbrev pub weight_at : List Term → ℕ → ℕ
 weight_at ts k = (slice_index_or ts k no_term).weight
 
--- the number of the first term, counted from `at`, whose minute is over 63 or below `low`, which is one more than the
--- minute before
+-- the number of the first term, counted from `at`, whose minute is over 63 or below `low`, which is
+-- one more than the minute before
 abbrev pub first_minute : ℕ → ℕ → List Term → Option ℕ
 first_minute at low [] = None
 first_minute at low (t ∷ ts) =
@@ -53,9 +55,11 @@ WrongMinute ts k = (k < length ts) × ((MINUTES ≤ minute_at ts k) ⊎ NotRisin
 abbrev pub WrongWeight : List Term → ℕ → Type 0
 WrongWeight ts k = (k < length ts) × (weight_at ts k ≡ 0)
 
--- the order in which a frame's terms are refused: 10 for their number, then 11 for a minute, then 12 for a weight
+-- the order in which a frame's terms are refused: 10 for their number, then 11 for a minute, then
+-- 12 for a weight
 abbrev pub frame_order : List Term → Order
-frame_order ts = rule 10 (AtStart (WrongCount ts)) (rule 11 (WrongMinute ts) (rule 12 (WrongWeight ts) no_rule))
+frame_order ts =
+    rule 10 (AtStart (WrongCount ts)) (rule 11 (WrongMinute ts) (rule 12 (WrongWeight ts) no_rule))
 
 -- what a frame's terms are
 pub record FrameTerms (ts : List Term) : Type 0 where

@@ -2,12 +2,17 @@
 use Rattle.std.specs.Prelude.{ℕ, cond, Result, nat_le}
 use Rattle.std.specs.Result.{result_map_both}
 use Rattle.frame.specs.declared.refusals.Refusal.{Refusal}
-use Rattle.frame.specs.declared.refusals.Refusal.TheVariants.{Disputed, MinuteBeyondWidth, NoCode, MinuteNoted, LedgerFull, SpaceTooShort, NoSlipToGive, WrongSlip, NoSuchRow, TermCount, MinuteOrder, ZeroWeight, UnknownLine, FieldCount, BadField, SizeOutOfRange}
+use Rattle.frame.specs.declared.refusals.Refusal.TheVariants.{Disputed, MinuteBeyondWidth, NoCode}
+use Rattle.frame.specs.declared.refusals.Refusal.TheVariants.{MinuteNoted, LedgerFull}
+use Rattle.frame.specs.declared.refusals.Refusal.TheVariants.{SpaceTooShort, NoSlipToGive}
+use Rattle.frame.specs.declared.refusals.Refusal.TheVariants.{WrongSlip, NoSuchRow, TermCount}
+use Rattle.frame.specs.declared.refusals.Refusal.TheVariants.{MinuteOrder, ZeroWeight, UnknownLine}
+use Rattle.frame.specs.declared.refusals.Refusal.TheVariants.{FieldCount, BadField, SizeOutOfRange}
 use Rattle.frame.specs.declared.refusals.Layer.{Layer}
 use Rattle.frame.specs.declared.refusals.Layer.TheVariants.{Line, Frame, Block}
 
--- a refusal as the table has it: its number, and its place, which is a term's number, the offset of a field's first
--- byte, or 0
+-- a refusal as the table has it: its number, and its place, which is a term's number, the offset of
+-- a field's first byte, or 0
 pub record RefusalCase : Type 0 where
   pub number : ℕ
   pub place : ℕ

@@ -26,17 +26,20 @@ fault_text (Missed i) = codes "none"
 fault_text (Zero i) = codes "place"
 fault_text (NoPlace i) = codes "outside"
 
--- for an hour of so many noted minutes and so many minutes: solved, whole or part, pivots, questions and the minutes;
--- contradiction, pivots, questions and the blame; or failed, question, side, kind and place
+-- for an hour of so many noted minutes and so many minutes: solved, whole or part, pivots,
+-- questions and the minutes; contradiction, pivots, questions and the blame; or failed, question,
+-- side, kind and place
 abbrev pub outcome_text : Outcome → (noted width : ℕ) → List ℕ → List ℕ
 outcome_text (Solved c) noted width xs =
     join 44
-    (codes "solved" ∷ extent_text (extent_of c.pivots noted width) ∷ decimal c.pivots ∷ decimal c.questions ∷ map decimal xs)
+    (codes "solved" ∷ extent_text (extent_of c.pivots noted width)
+    ∷ decimal c.pivots ∷ decimal c.questions ∷ map decimal xs)
 outcome_text (Contradiction c) noted width us =
     join 44 (codes "contradiction" ∷ decimal c.pivots ∷ decimal c.questions ∷ map decimal us)
 outcome_text (Failed f) noted width xs =
     join 44
-    (codes "failed" ∷ decimal f.question ∷ side_text f.side ∷ fault_text f.fault ∷ decimal (fault_place f.fault) ∷ [])
+    (codes "failed" ∷ decimal f.question ∷ side_text f.side
+    ∷ fault_text f.fault ∷ decimal (fault_place f.fault) ∷ [])
 
 -- the profile's line
 abbrev pub profile_text : List ℕ → List ℕ

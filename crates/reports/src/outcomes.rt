@@ -9,8 +9,8 @@ use solver::outcomes::{Count, Extent, Outcome};
 use solver::questions::Side;
 use std::fmt;
 
-/// How a run ended, for rows of so many minutes, of which so many are noted, and the codes that it wrote: the minutes or the
-/// blame.
+/// How a run ended, for rows of so many minutes, of which so many are noted, and the codes that it
+/// wrote: the minutes or the blame.
 #[derive(Clone, Copy)]
 pub struct OutcomeText<'a> {
     pub outcome: Outcome,
@@ -51,7 +51,8 @@ impl fmt::Display for OutcomeText<'_> {
     ghost use Rattle.std.specs.Prelude.{Some};
     ghost use Rattle.reports.specs.Texts.{outcome_text};
 
-    ghost output = { λ text. Some (outcome_text text.outcome text.noted text.width text.codes.now) };
+    ghost output = { λ text.
+        Some (outcome_text text.outcome text.noted text.width text.codes.now) };
 
     fn fmt<W: fmt::Write>(&self, f: &mut fmt::Formatter<W>) -> fmt::Result {
         let codes = Numbers {

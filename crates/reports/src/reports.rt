@@ -32,7 +32,8 @@ impl fmt::Display for Report<'_> {
     ghost use Rattle.reports.specs.Reports.{lines_text};
 
     ghost output = { λ report. let settle = report.settle in
-        Some (lines_text report.profile.now settle.outcome settle.noted settle.width settle.codes.now) };
+        let rows = report.profile.now in
+        Some (lines_text rows settle.outcome settle.noted settle.width settle.codes.now) };
 
     fn fmt<W: fmt::Write>(&self, f: &mut fmt::Formatter<W>) -> fmt::Result {
         let count = self.profile.len();
@@ -107,8 +108,8 @@ fn text_of<F: Field, R: Rows>(
     report.to_string(heap)
 }
 
-/// A line with the row rank profile, the rows that carry something new, and a line with how the rows
-/// settle by the scan. Fails for want of memory alone.
+/// A line with the row rank profile, the rows that carry something new, and a line with how the
+/// rows settle by the scan. Fails for want of memory alone.
 pub fn report_on<F: Field, R: Rows>(heap: Global, rows: &R) -> Result<String, AllocError>
     ensures { IfOk result (λ text. Reports F.ops (R.system rows.now) (string_bytes text)) }
 {
@@ -124,7 +125,8 @@ pub fn report_noted<F: Field, R: Rows>(
     noted: &Noted<F, R>,
 ) -> Result<String, AllocError>
     ensures { let codes = codes_in noted.now in
-        IfOk result (λ text. ReportsNoted F.ops codes (system_below noted.now) (string_bytes text)) }
+        let S = system_below noted.now in
+        IfOk result (λ text. ReportsNoted F.ops codes S (string_bytes text)) }
 {
     let mut work = [0; WORK_WORDS];
     let (outcome, mut findings) = settled::<F, Noted<F, R>>(noted, &mut work);

@@ -51,4 +51,5 @@ smallest X (suc n) p k = min p.own.number (smallest X n p.below k)
 -- however many caps stand over a ledger: they mean what it means, and the smallest limit counts
 pub record NestedCapsLaw {X : Type 0} (system : X → System) (most : X → ℕ) : Type 0 where
   pub meaning : (n : ℕ) (p : NestedCaps n X) → nested_system X n system p ≡ system (base X n p)
-  pub limit : (n : ℕ) (p : NestedCaps n X) → nested_limit X n most p ≡ smallest X n p (most (base X n p))
+  pub limit : (n : ℕ) (p : NestedCaps n X) →
+      nested_limit X n most p ≡ smallest X n p (most (base X n p))

@@ -12,4 +12,5 @@ terms_of_row S i = option_map (λ r. r.terms) (slice_get S.rows i)
 
 -- the terms from one number up to another
 abbrev pub terms_left : {X : Type 0} → (X → System) → RowTerms X → List Term
-terms_left system ts = drop ts.numbers.start (take ts.numbers.end (row_at (system ts.rows.now) ts.row).terms)
+terms_left system ts =
+    drop ts.numbers.start (take ts.numbers.end (row_at (system ts.rows.now) ts.row).terms)

@@ -27,7 +27,8 @@ row_at S i = slice_index_or S.rows i empty_row
 abbrev pub sum_at : System → ℕ → ℕ
 sum_at S i = (row_at S i).sum
 
--- a row for a width: its minutes are below the width and rise strictly, and all its numbers are words of 16 bits
+-- a row for a width: its minutes are below the width and rise strictly, and all its numbers are
+-- words of 16 bits
 pub record WellFormedRow (m : ℕ) (r : Row) : Type 0 where
   pub word : r.sum < 65536
   pub below : (k : ℕ) → k < length r.terms → minute_at r.terms k < m

@@ -1,5 +1,6 @@
 -- The matrix of rows, and the values of a row and of a column, in any field. Assumes nothing.
-use Rattle.std.specs.Prelude.{◌≡◌, ℕ, ◌%◌, ◌<◌, cond, List, [], ◌∷◌, length, Some, None, Option, ◌==◌, ◌≢◌, ◌↔◌, nat_lt, slice_index}
+use Rattle.std.specs.Prelude.{◌≡◌, ℕ, ◌%◌, ◌<◌, cond, List, [], ◌∷◌, length, Some, None, Option}
+use Rattle.std.specs.Prelude.{◌==◌, ◌≢◌, ◌↔◌, nat_lt, slice_index}
 use Rattle.std.specs.List.{slice_get}
 use Rattle.std.specs.Option.{option_map}
 use Rattle.field.specs.Operations.{Operations}
@@ -22,7 +23,8 @@ entry K S i c = weight_for (row_at S i).terms c % K.q
 
 -- the same, none outside the matrix
 abbrev pub entry_of : Operations → System → ℕ → ℕ → Option ℕ
-entry_of K S i c = cond (nat_lt i (length S.rows)) (cond (nat_lt c S.width) (Some (entry K S i c)) None) None
+entry_of K S i c =
+    cond (nat_lt i (length S.rows)) (cond (nat_lt c S.width) (Some (entry K S i c)) None) None
 
 -- the weights times the codes that x has at their minutes, added up
 unfoldable pub weighted : Operations → List Term → (ℕ → ℕ) → ℕ
@@ -51,7 +53,8 @@ SatisfiesAll K S x = (i : ℕ) → i < length S.rows → Satisfies K (row_at S i
 -- each row but row i is satisfied by the same choices in the one system as in the other
 abbrev pub OthersSatisfied : System → System → ℕ → Type 0
 OthersSatisfied S T i =
-    (K : Operations) (x : ℕ → ℕ) (k : ℕ) → k ≢ i → Satisfies K (row_at S k) x ↔ Satisfies K (row_at T k) x
+    (K : Operations) (x : ℕ → ℕ) (k : ℕ) → k ≢ i →
+    Satisfies K (row_at S k) x ↔ Satisfies K (row_at T k) x
 
 -- a row's value is a code, and 0 just where the row is satisfied
 pub record ValueTells (K : Operations) (r : Row) (x : ℕ → ℕ) : Type 0 where

@@ -1,5 +1,6 @@
 -- What every run of a settle keeps, in words of rows, minutes and answers. Assumes nothing.
-use Rattle.std.specs.Prelude.{◌≡◌, ◌≢◌, ℕ, suc, ◌+◌, ◌%◌, ◌<◌, ◌≤◌, ◌↔◌, ◌⊎◌, List, [], ◌∷◌, length, drop, ⊤, Some, Ok, Result, nat_lt}
+use Rattle.std.specs.Prelude.{◌≡◌, ◌≢◌, ℕ, suc, ◌+◌, ◌%◌, ◌<◌, ◌≤◌, ◌↔◌, ◌⊎◌, List, [], ◌∷◌, length}
+use Rattle.std.specs.Prelude.{drop, ⊤, Some, Ok, Result, nat_lt}
 use Rattle.std.specs.List.{All, Contains}
 use Rattle.field.specs.Operations.{Operations}
 use Rattle.field.specs.Sums.{Σ}
@@ -15,7 +16,8 @@ use Rattle.solver.specs.declared.outcomes.Outcome.{Outcome}
 use Rattle.solver.specs.declared.spaces.TheConstants.{WORK_WORDS}
 use Rattle.rows.specs.Systems.{sum_at}
 use Rattle.solver.specs.Questions.{Asked, side, HandsCodes, HasFault, FalseAnswer}
-use Rattle.solver.specs.Outcomes.{Case, fault_case, side_case, solved_case, contradiction_case, failed_case, outcome_case, IsSolved, IsContradiction, IsFailed}
+use Rattle.solver.specs.Outcomes.{Case, fault_case, side_case, solved_case, contradiction_case}
+use Rattle.solver.specs.Outcomes.{failed_case, outcome_case, IsSolved, IsContradiction, IsFailed}
 use Rattle.solver.specs.Scouts.{ScoutMeaning}
 use Rattle.solver.specs.Runs.{Exchange, Ran, Writes, whole_run}
 

@@ -1,5 +1,6 @@
 -- Questions about rows, their values, and which answers are false. Assumes nothing.
-use Rattle.std.specs.Prelude.{◌≡◌, ◌≢◌, ℕ, ◌<◌, ◌≤◌, ◌⊎◌, ◌==◌, not, cond, List, length, Some, None, Ok, Err, Option, Result, MatchResult, nat_lt}
+use Rattle.std.specs.Prelude.{◌≡◌, ◌≢◌, ℕ, ◌<◌, ◌≤◌, ◌⊎◌, ◌==◌, not, cond, List, length, Some, None}
+use Rattle.std.specs.Prelude.{Ok, Err, Option, Result, MatchResult, nat_lt}
 use Rattle.field.specs.Operations.{Operations, first_from}
 use Rattle.rows.specs.Systems.{System, row_at}
 use Rattle.rows.specs.Values.{choice, row_value, column_value}

@@ -1,5 +1,6 @@
 -- The run of a settle, one question at a time. Assumes nothing.
-use Rattle.std.specs.Prelude.{◌≡◌, ℕ, zero, suc, ◌+◌, List, [], ◌∷◌, length, map, Some, None, Ok, Err, Option, Result}
+use Rattle.std.specs.Prelude.{◌≡◌, ℕ, zero, suc, ◌+◌, List, [], ◌∷◌, length, map, Some, None, Ok}
+use Rattle.std.specs.Prelude.{Err, Option, Result}
 use Rattle.std.specs.List.{range_with_len}
 use Rattle.field.specs.Operations.{Operations}
 use Rattle.field.specs.Slices.{Filled}
@@ -8,7 +9,8 @@ use Rattle.rows.specs.Values.{choice, entry}
 use Rattle.algebra.specs.Pivots.{Pivots, no_pivots, solution, multipliers, grow}
 use Rattle.algebra.specs.Profiles.{pivot_rows}
 use Rattle.solver.specs.declared.findings.Findings.{Findings}
-use Rattle.solver.specs.Outcomes.{Case, solved_case, contradiction_case, failed_case, IsSolved, IsContradiction, IsFailed}
+use Rattle.solver.specs.Outcomes.{Case, solved_case, contradiction_case, failed_case, IsSolved}
+use Rattle.solver.specs.Outcomes.{IsContradiction, IsFailed}
 use Rattle.rows.specs.Systems.{sum_at}
 use Rattle.solver.specs.Questions.{Asked, about_rows, about_columns, question_codes, side, verified}
 use Rattle.solver.specs.Scouts.{ScoutMeaning}
@@ -135,5 +137,6 @@ WritesLast exchanges list list' =
 -- what a run writes: x when it is solved, u on a contradiction, and nothing else
 pub record Writes (outcome : Case) (exchanges : List Exchange) (f f' : Findings) : Type 0 where
   pub minutes : IsSolved outcome → WritesLast exchanges f.minutes f'.minutes × (f'.blame ≡ f.blame)
-  pub blame : IsContradiction outcome → (f'.minutes ≡ f.minutes) × WritesLast exchanges f.blame f'.blame
+  pub blame : IsContradiction outcome →
+      (f'.minutes ≡ f.minutes) × WritesLast exchanges f.blame f'.blame
   pub nothing : IsFailed outcome → f' ≡ f

@@ -14,8 +14,8 @@ use solver::runs::settle;
 use solver::scouts::Scout;
 
 /// Settles rows under their notes, and tells of a solved run whether it is whole. Where it is, the
-/// minutes found, with the noted codes put in, are the only choice that satisfies the rows below and
-/// has the noted codes.
+/// minutes found, with the noted codes put in, are the only choice that satisfies the rows below
+/// and has the noted codes.
 pub fn settle_noted<F: Field, R: Rows, S: Scout<F>>(
     noted: &Noted<F, R>,
     scout: &mut S,

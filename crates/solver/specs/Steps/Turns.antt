@@ -1,5 +1,6 @@
 -- What the steps of a run in code keep. Assumes nothing.
-use Rattle.std.specs.Prelude.{◌≡◌, ℕ, suc, ◌+◌, List, length, Some, None, Ok, Err, Option, Result, MatchResult, IfOk}
+use Rattle.std.specs.Prelude.{◌≡◌, ℕ, suc, ◌+◌, List, length, Some, None, Ok, Err, Option, Result}
+use Rattle.std.specs.Prelude.{MatchResult, IfOk}
 use Rattle.std.specs.Result.{result_map_both}
 use Rattle.field.specs.Operations.{Operations}
 use Rattle.rows.specs.Systems.{System}
@@ -9,7 +10,8 @@ use Rattle.solver.specs.declared.outcomes.Outcome.{Outcome}
 use Rattle.solver.specs.Outcomes.{Case, outcome_case}
 use Rattle.solver.specs.Steps.Pivots.{PivotsOfRows}
 use Rattle.solver.specs.Scouts.{ScoutMeaning}
-use Rattle.solver.specs.Runs.{Exchange, State, Progress, question, end, Ran, Writes, ending, named, exchanged, next_question, step, run}
+use Rattle.solver.specs.Runs.{Exchange, State, Progress, question, end, Ran, Writes, ending, named}
+use Rattle.solver.specs.Runs.{exchanged, next_question, step, run}
 
 -- a state with these pivots
 abbrev pub state : Pivots → Option ℕ → List Exchange → State
