@@ -49,7 +49,7 @@ pub enum Refusal {
 }
 
 impl Refusal {
-    /// Its number in the table of refusals, 1 to 16, fixed by a rule of the project.
+    /// Its number in the table of refusals, 1 to 16.
     // Named: `u8::from` would not say which number.
     pub fn number(&self) -> u8
         ensures { result ≡ refusal_number self.now }
@@ -74,8 +74,7 @@ impl Refusal {
         }
     }
 
-    /// The term or byte that the refusal points at, counted from 0. By a rule of the project 0
-    /// where it points at none.
+    /// The term or byte that the refusal points at, counted from 0; 0 where it points at none.
     pub fn place(&self) -> usize
         ensures { result ≡ refusal_place self.now }
     {

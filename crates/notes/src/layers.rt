@@ -104,9 +104,10 @@ impl<F: Field, R: Rows> Noted<F, R> {
         self.notes.get(minute)
     }
 
-    /// How many minutes are noted, at most the width. Where columns determine a choice under the
-    /// notes, and they and this count add up to the width, it is the only choice that has the noted
-    /// codes and satisfies the rows below.
+    /// How many minutes are noted, at most the width. Where different columns, none of them 0,
+    /// determine a choice under the notes, and they and this count add up to the width, no other
+    /// choice than this one, with the noted codes put in, has the noted codes and satisfies the
+    /// rows below.
     pub fn noted_count(&self) -> usize
         ensures count { result ≡ noted_count (codes_in self.now) }
         ensures at_most { result ≤ (system_below self.now).width }

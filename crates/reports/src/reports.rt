@@ -108,8 +108,8 @@ fn text_of<F: Field, R: Rows>(
     report.to_string(heap)
 }
 
-/// A line with the row rank profile, the rows that carry something new, and a line with how the
-/// rows settle by the scan. Fails for want of memory alone.
+/// A line with the row rank profile and a line with how the rows settle by the scan. Of rows under
+/// notes `report_noted` tells more: here no minute counts as noted. Fails for want of memory alone.
 pub fn report_on<F: Field, R: Rows>(heap: Global, rows: &R) -> Result<String, AllocError>
     ensures { IfOk result (λ text. Reports F.ops (R.system rows.now) (string_bytes text)) }
 {

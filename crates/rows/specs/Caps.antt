@@ -1,5 +1,5 @@
 -- What a cap means, from what the ledger below it means. Assumes nothing.
-use Rattle.std.specs.Prelude.{◌≡◌, ℕ, zero, suc, min}
+use Rattle.std.specs.Prelude.{◌≡◌, ℕ, zero, suc, min, List, ◌∷◌}
 use Rattle.rows.specs.declared.caps.Cap.{Cap}
 use Rattle.rows.specs.Systems.{System}
 
@@ -18,12 +18,19 @@ cap_system system cap = system cap.below
 abbrev pub cap_limit : {X : Type 0} → (X → ℕ) → Cap X → ℕ
 cap_limit most cap = min cap.own.number (most cap.below)
 
+-- its own number, before the limits below
+abbrev pub cap_limits : {X : Type 0} → (X → List ℕ) → Cap X → List ℕ
+cap_limits limits cap = cap.own.number ∷ limits cap.below
+
 -- the same for one cap over another
 abbrev pub two_caps_system : {X : Type 0} → (X → System) → Cap (Cap X) → System
 two_caps_system system = cap_system (cap_system system)
 
 abbrev pub two_caps_limit : {X : Type 0} → (X → ℕ) → Cap (Cap X) → ℕ
 two_caps_limit most = cap_limit (cap_limit most)
+
+abbrev pub two_caps_limits : {X : Type 0} → (X → List ℕ) → Cap (Cap X) → List ℕ
+two_caps_limits limits = cap_limits (cap_limits limits)
 
 -- n caps over X
 abbrev pub NestedCaps : ℕ → Type 0 → Type 0

@@ -7,8 +7,9 @@ ghost use Rattle.rows.specs.Ledgers.{row_of, take_answer, take_order, after_take
 ghost use Rattle.rows.specs.Ledgers.{strike_answer, after_strike, cleared};
 ghost use Rattle.rows.specs.Sizes.{size_number};
 ghost use Rattle.rows.specs.Values.{OthersSatisfied};
-ghost use Rattle.rows.specs.Caps.{own_number, ledger_below, cap_system, cap_limit};
-ghost use Rattle.rows.specs.Caps.{two_caps_system, two_caps_limit, NestedCapsLaw};
+ghost use Rattle.rows.specs.Caps.{own_number, ledger_below, cap_system, cap_limit, cap_limits};
+ghost use Rattle.rows.specs.Caps.{two_caps_system, two_caps_limit, two_caps_limits};
+ghost use Rattle.rows.specs.Caps.{NestedCapsLaw};
 ghost use Rattle.rows.specs.Lemmas.Limits.{smaller_limit};
 
 use crate::ledgers::{Ledger, admit};
@@ -78,6 +79,8 @@ impl<L: Ledger> Rows for Cap<L> {
 impl<L: Ledger> Ledger for Cap<L> {
     ghost most = { cap_limit L.most };
 
+    ghost limits = { cap_limits L.limits };
+
     ghost limited = { λ cap.
         smaller_limit cap.own.number (L.most cap.below) cap.own.some (L.limited cap.below) };
 
@@ -85,7 +88,6 @@ impl<L: Ledger> Ledger for Cap<L> {
         self.own.number().min(self.below.limit())
     }
 
-    // Beside what every ledger promises, no call changes the cap's own number.
     fn take(&mut self, frame: &Frame<'_>) -> Result<usize, Refusal>
         ensures answer { let before = cap_system L.system self.old in
             let limit = cap_limit L.most self.old in
@@ -96,7 +98,7 @@ impl<L: Ledger> Ledger for Cap<L> {
         ensures after { cap_system L.system self.new
             ≡ after_take result (cap_system L.system self.old) (row_of frame.now) }
         ensures kept { cap_limit L.most self.new ≡ cap_limit L.most self.old }
-        ensures own { own_number self.new ≡ own_number self.old }
+        ensures limits { cap_limits L.limits self.new ≡ cap_limits L.limits self.old }
     {
         admit(frame, self.width(), self.row_count(), self.own.number())?;
         self.below.take(frame)
@@ -109,7 +111,7 @@ impl<L: Ledger> Ledger for Cap<L> {
         ensures others { OthersSatisfied (cap_system L.system self.old)
             (cap_system L.system self.new) row }
         ensures kept { cap_limit L.most self.new ≡ cap_limit L.most self.old }
-        ensures own { own_number self.new ≡ own_number self.old }
+        ensures limits { cap_limits L.limits self.new ≡ cap_limits L.limits self.old }
     {
         self.below.strike(row)
     }
@@ -117,7 +119,7 @@ impl<L: Ledger> Ledger for Cap<L> {
     fn clear(&mut self)
         ensures after { cap_system L.system self.new ≡ cleared (cap_system L.system self.old) }
         ensures kept { cap_limit L.most self.new ≡ cap_limit L.most self.old }
-        ensures own { own_number self.new ≡ own_number self.old }
+        ensures limits { cap_limits L.limits self.new ≡ cap_limits L.limits self.old }
     {
         self.below.clear();
     }
@@ -138,7 +140,7 @@ pub fn take_under_caps<L: Ledger>(
     ensures after { two_caps_system L.system caps.new
         ≡ after_take result (two_caps_system L.system caps.old) (row_of frame.now) }
     ensures kept { two_caps_limit L.most caps.new ≡ two_caps_limit L.most caps.old }
-    ensures own { own_number caps.new ≡ own_number caps.old }
+    ensures limits { two_caps_limits L.limits caps.new ≡ two_caps_limits L.limits caps.old }
 {
     caps.take(frame)
 }

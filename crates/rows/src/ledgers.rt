@@ -1,5 +1,5 @@
 //! Ledgers: rows that are taken, struck and cleared.
-ghost use Rattle.std.specs.Prelude.{◌≡◌, ℕ};
+ghost use Rattle.std.specs.Prelude.{◌≡◌, ℕ, List};
 ghost use Rattle.frame.specs.Refusals.{numbered};
 ghost use Rattle.frame.specs.Orders.{KeepsOrder};
 ghost use Rattle.frame.specs.Parts.{terms_of};
@@ -12,9 +12,13 @@ use crate::reading::Rows;
 use frame::frames::Frame;
 use frame::refusals::Refusal;
 
-/// A ledger: rows that come from frames, one for each. No call changes the width or the limit.
+/// A ledger: rows that come from frames, one for each. No call changes the width, the limit, or
+/// any of the limits that it comes from: the own numbers of the caps, the outermost first, and
+/// last the limit of the ledger below them all.
 pub trait Ledger: Rows {
     ghost most: { Self → ℕ };
+
+    ghost limits: { Self → List ℕ };
 
     /// How many rows there may be before take refuses, 1 to 96.
     fn limit(&self) -> usize
@@ -31,7 +35,8 @@ pub trait Ledger: Rows {
             (numbered result) }
         ensures after { Self.system self.new
             ≡ after_take result (Self.system self.old) (row_of frame.now) }
-        ensures kept { most self.new ≡ most self.old };
+        ensures kept { most self.new ≡ most self.old }
+        ensures limits { limits self.new ≡ limits self.old };
 
     /// Makes a row empty, with no terms and sum 0. The other rows keep their numbers, and each
     /// choice of minutes satisfies one of them just where it did. Refuses a row that does not
@@ -40,12 +45,14 @@ pub trait Ledger: Rows {
         ensures answer { numbered result ≡ strike_answer (Self.system self.old) row }
         ensures after { Self.system self.new ≡ after_strike result (Self.system self.old) row }
         ensures others { OthersSatisfied (Self.system self.old) (Self.system self.new) row }
-        ensures kept { most self.new ≡ most self.old };
+        ensures kept { most self.new ≡ most self.old }
+        ensures limits { limits self.new ≡ limits self.old };
 
     /// Removes all rows.
     fn clear(&mut self)
         ensures after { Self.system self.new ≡ cleared (Self.system self.old) }
-        ensures kept { most self.new ≡ most self.old };
+        ensures kept { most self.new ≡ most self.old }
+        ensures limits { limits self.new ≡ limits self.old };
 
     ghost limited: { (ledger : Self) → LimitInRange (most ledger) };
 }

@@ -96,9 +96,12 @@ impl Rows for Table {
 }
 
 impl Ledger for Table {
+    ghost use Rattle.std.specs.Prelude.{◌∷◌, []};
     ghost use Rattle.rows.specs.Lemmas.SlotRows.{table_limited};
 
     ghost most = { λ _. MOST_ROWS };
+
+    ghost limits = { λ _. MOST_ROWS ∷ [] };
 
     ghost limited = { table_limited };
 

@@ -29,8 +29,8 @@ impl Fault {
     }
 }
 
-/// An answer verified: itself where it is true, else its fault. Of the values one is worked out for
-/// a place, and for none all up to the first that is not 0.
+/// An answer verified: itself where it is true, else its fault. For a place its value alone is
+/// worked out; for none the values of rows up to the first that is not 0, and of columns all.
 pub fn verify<F: Field, R: Rows>(
     rows: &R,
     question: Question<'_>,

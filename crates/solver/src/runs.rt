@@ -158,9 +158,10 @@ fn complete<F: Field, R: Rows, S: Scout<F>>(
 }
 
 /// Settles the rows: finds minutes that satisfy them all, or shows that none do, with pivots that
-/// the scout names. What is found stands in the record: the minutes of a solved run, or the
-/// blame of a contradiction. Refuses a work space under 8192 words (6), and then changes nothing.
-/// What an accepted call leaves in the work space is left free.
+/// the scout names, or fails at a false answer of the scout. What is found stands in the record:
+/// the minutes of a solved run, or the blame of a contradiction. Refuses a work space under 8192
+/// words (6), and then changes nothing. What an accepted call leaves in the work space is left
+/// free.
 pub fn settle<F: Field, R: Rows, S: Scout<F>>(
     rows: &R,
     scout: &mut S,

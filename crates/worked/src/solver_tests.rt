@@ -198,7 +198,7 @@ fn an_hour_that_is_all_notes_settles(rt: HostRuntime) -> Result<(), Fail> {
     let mut work = [0; 8192];
     assert_eq!(rt;
         settle_noted(&noted, &mut Scan, &mut work, &mut used_record()),
-        Ok(Some(Extent::Whole))
+        solved(0, 1).map(|outcome| (outcome, Some(Extent::Whole)))
     );
     let other = all_noted(&rt, 18)?;
     settles::<Prime, Noted<Prime, Table>>(&rt, &other, contradiction(0, 2), &[], &[1]);

@@ -1,4 +1,4 @@
-use Rattle.std.proofs.Common.{◌≡◌, Ok, Some, sym, ap, subst, ◌∙◌}
+use Rattle.std.proofs.Common.{◌≡◌, sym, ap, subst, ◌∙◌}
 use Rattle.solver.specs.declared.outcomes.Extent.{Extent}
 use Rattle.solver.specs.declared.outcomes.Extent.TheVariants.{Whole}
 use Rattle.solver.specs.Outcomes.{extent_case, extent_of}
@@ -8,8 +8,8 @@ use Rattle.notes.specs.Layers.{codes_in, system_below, system_noted}
 use Rattle.worked.proofs.OneChoice.{only_choice}
 use Rattle.worked.proofs.whole.settle_noted.Goals as goal
 
-pub returns-in-Solved : goal.returns-in-Solved
-returns-in-Solved g c e =
+pub returns-in-Solved-clause-whole : goal.returns-in-Solved-clause-whole
+returns-in-Solved-clause-whole g c e =
     let noted = c.args.noted.now in
     let codes = codes_in noted in
     let S = system_below noted in

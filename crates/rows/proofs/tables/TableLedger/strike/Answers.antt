@@ -16,4 +16,5 @@ returns c =
       after = ap (λ rows. record { width = t.width.number; rows = rows }) gone;
       others = subst (λ rows. OthersSatisfied (system_of t) (record { width = t.width.number; rows = rows }) row) (sym gone) (struck_others (system_of t) row);
       kept = refl;
+      limits = refl;
     }
