@@ -162,6 +162,7 @@ impl<F: Field, L: Ledger> Noted<F, L> {
         ensures shown { let row = row_under F.ops (codes_in self.old) (row_of frame.now) in
             system_noted self.new ≡ after_take result (system_noted self.old) row }
         ensures kept { L.most (below self.new) ≡ L.most (below self.old) }
+        ensures limits { L.limits (below self.new) ≡ L.limits (below self.old) }
         ensures codes { codes_in self.new ≡ codes_in self.old }
     {
         self.below.take(frame)
@@ -176,6 +177,7 @@ impl<F: Field, L: Ledger> Noted<F, L> {
         ensures shown { system_noted self.new ≡ after_strike result (system_noted self.old) row }
         ensures others { OthersSatisfied (system_noted self.old) (system_noted self.new) row }
         ensures kept { L.most (below self.new) ≡ L.most (below self.old) }
+        ensures limits { L.limits (below self.new) ≡ L.limits (below self.old) }
         ensures codes { codes_in self.new ≡ codes_in self.old }
     {
         self.below.strike(row)
@@ -186,6 +188,7 @@ impl<F: Field, L: Ledger> Noted<F, L> {
         ensures after { system_below self.new ≡ cleared (system_below self.old) }
         ensures shown { system_noted self.new ≡ cleared (system_noted self.old) }
         ensures kept { L.most (below self.new) ≡ L.most (below self.old) }
+        ensures limits { L.limits (below self.new) ≡ L.limits (below self.old) }
         ensures codes { codes_in self.new ≡ codes_in self.old }
     {
         self.below.clear();

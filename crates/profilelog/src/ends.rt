@@ -21,7 +21,7 @@ fn report_hour(heap: Global, hour: &Hour) -> Result<String, AllocError>
     }
 }
 
-// The report on the hour that was opened; nothing where none was.
+/// The report on the hour that was opened; nothing where none was.
 pub fn final_report(heap: Global, session: &Session) -> Result<String, AllocError>
     ensures { MatchResult result (λ text. EndsWith session.now (string_bytes text)) (λ e. ⊤) }
 {

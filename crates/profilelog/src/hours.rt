@@ -14,7 +14,7 @@ use rows::sizes::{MOST_ROWS, Width};
 use rows::tables::Table;
 use std::marker::Model;
 
-// An hour: the field to calculate in, and the rows that its frames made.
+/// An hour: the field to calculate in, and the rows that its frames made.
 #[derive(Drop)]
 pub struct Hour {
     field: FieldName,
@@ -33,7 +33,7 @@ impl Model for Hour {
 }
 
 impl Hour {
-    // The hour that is opened, without rows; refuses a width that is not 1 to 64 (16).
+    /// The hour that is opened, without rows; refuses a width that is not 1 to 64 (16).
     pub fn open(opening: Opening) -> Result<Hour, Refusal>
         ensures { numbered result ≡ opened opening }
     {
@@ -44,29 +44,31 @@ impl Hour {
         })
     }
 
+    /// The field that was opened.
     pub fn field(&self) -> FieldName
         ensures { result ≡ self.now.field }
     {
         self.field
     }
 
-    // The rows, for reading.
+    /// The rows, for reading.
     pub fn rows(&self) -> &Table
         ensures { system_of result.now ≡ self.now.system }
     {
         &self.rows
     }
 
-    // The number of minutes.
+    /// The number of minutes.
     pub fn width(&self) -> usize
         ensures { result ≡ self.now.system.width }
     {
         self.rows.width()
     }
 
-    // Appends a frame as the last row and returns its number, as a table does.
+    /// Appends a frame as the last row and returns its number, as a table does.
     pub fn take(&mut self, frame: &Frame<'_>) -> Result<usize, Refusal>
-        ensures answer { numbered result ≡ take_answer self.old.system MOST_ROWS (row_of frame.now) }
+        ensures answer { numbered result
+            ≡ take_answer self.old.system MOST_ROWS (row_of frame.now) }
         ensures after { self.new ≡ filled self.old (row_of frame.now) }
     {
         self.rows.take(frame)

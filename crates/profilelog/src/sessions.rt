@@ -20,7 +20,7 @@ use lines::reading::{MOST_BYTES, line_kind};
 use std::alloc::AllocError;
 use std::marker::Model;
 
-// The lines so far: the hour that they opened, once one did.
+/// The lines so far: the hour that they opened, once one did.
 #[derive(Drop)]
 pub struct Session {
     hour: Option<Hour>,
@@ -37,14 +37,14 @@ impl Model for Session {
 }
 
 impl Session {
-    // No hour is open.
+    /// No hour is open.
     pub fn new() -> Session
         ensures { result ≡ None }
     {
         Session { hour: None }
     }
 
-    // The hour that is open; none before a line opened one.
+    /// The hour that is open; none before a line opened one.
     pub fn hour(&self) -> Option<&Hour>
         ensures { option_map (λ hour. hour.now) result ≡ self.now }
     {
@@ -104,7 +104,7 @@ impl Session {
     }
 }
 
-// Which lines are accepted, and what they leave.
+/// Which lines are accepted, and what they leave.
 pub fn session_laws()
     ensures { SessionLaws }
 {}
@@ -114,7 +114,8 @@ impl Answerer for Session {
 
     ghost fronts = { knows_fronts };
 
-    // There is room for the answer before the line is taken, so that nothing is taken without an answer.
+    // There is room for the answer before the line is taken, so that nothing is taken without an
+    // answer.
     fn answer(&mut self, out: &mut Vec<u8>, line: &[u8]) -> Result<(), AllocError> {
         out.reserve(MOST_BYTES + 1)?;
         let kind = line_kind(line);
