@@ -55,7 +55,7 @@ module _ {X : Type 0} (K : Operations) (S : System) (M : ScoutMeaning X) (P : Pi
         record {
           failed = λ o f e. let failed = ends_failed t o (sym e ∙ answered) in record { scout = moved; next = failed.0; writes = fails o f failed.1 };
           none = λ o f f' e ends writes. record { scout = moved; next = ends_none t (sym e ∙ answered) ∙ ap end (sym ends); writes = writes };
-          named = λ i f e. record { scout = moved; next = goes_on t i (sym e ∙ answered); writes = refl };
+          place = λ i f e. record { scout = moved; next = goes_on t i (sym e ∙ answered); writes = refl };
         }
 
 -- equal numbers of pivots and of questions

@@ -47,7 +47,7 @@ pub record Continues {X : Type 0} (K : Operations) (S : System) (M : ScoutMeanin
   pub none : (o : Case) (f f' : Findings) → r ≡ Ok None →
       o ≡ ending st.pivots st.row (exchanges_then K S M st from) →
       Writes o (exchanges_then K S M st from) f f' → Put K S M st from to f f' (Err o)
-  pub named : (i : ℕ) (f : Findings) → r ≡ Ok (Some i) → Put K S M st from to f f (Ok i)
+  pub place : (i : ℕ) (f : Findings) → r ≡ Ok (Some i) → Put K S M st from to f f (Ok i)
 
 -- a turn that begins with the row question and makes a pivot more: two questions later the run
 -- stands at the next turn, and nothing is written

@@ -38,7 +38,7 @@ pub returns-clause-put : goal.returns-clause-put
 returns-clause-put g c exchanges many =
     let P = pivots_of c.args.pivots.now in
     let same = columns_asked (lawful g.F.Field.ops g.met.F.Field.laws) (g.R.Rows.system c.args.rows.now) (g.met.R.Rows.formed c.args.rows.now) P c.requires.pivots c.args.row c.args.coefficients.now c.multipliers-u.result c.row_count.result c.row_count.ensures c.requires.outside c.requires.coefficients c.multipliers-u.ensures in
-    (c.put.ensures.continues P (Some c.args.row) exchanges same (omega (arith, c.count.ensures, many))).named c.in-Some.minute c.args.findings.now (ap ended (c.in_ok-minute.was ∙ ap Ok c.in-Some.is))
+    (c.put.ensures.continues P (Some c.args.row) exchanges same (omega (arith, c.count.ensures, many))).place c.in-Some.minute c.args.findings.now (ap ended (c.in_ok-minute.was ∙ ap Ok c.in-Some.is))
 
 pub returns-clause-below : goal.returns-clause-below
 returns-clause-below g c =

@@ -38,7 +38,7 @@ pub returns-clause-put : goal.returns-clause-put
 returns-clause-put g c exchanges many =
     let P = pivots_of c.args.pivots.now in
     let same = rows_asked (lawful g.F.Field.ops g.met.F.Field.laws) (g.R.Rows.system c.args.rows.now) (g.met.R.Rows.formed c.args.rows.now) P c.requires c.solution-x.result c.width.result c.width.ensures c.solution-x.ensures in
-    (c.put.ensures.continues P None exchanges same (omega (arith, c.count.ensures, many))).named c.in-Some.row c.args.findings.now (ap ended (c.in_ok-row.was ∙ ap Ok c.in-Some.is))
+    (c.put.ensures.continues P None exchanges same (omega (arith, c.count.ensures, many))).place c.in-Some.row c.args.findings.now (ap ended (c.in_ok-row.was ∙ ap Ok c.in-Some.is))
 
 pub returns-clause-there : goal.returns-clause-there
 returns-clause-there g c =
