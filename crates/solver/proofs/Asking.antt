@@ -16,7 +16,7 @@ use Rattle.rows.specs.Systems.{sum_at}
 use Rattle.solver.specs.Questions.{about_rows, about_columns, value_at, TrueAnswer}
 use Rattle.solver.specs.Runs.{x_of, u_of}
 use Rattle.solver.proofs.Filling.{list_of_values, values_hold}
-use Rattle.solver.proofs.Matrix.{row_value-is}
+use Rattle.solver.proofs.Matrix.{row_value-is, mul_vec-congr}
 
 -- the first places of a slice
 pub taken_holds : (n m : ℕ) (f : ℕ → ℕ) (xs : List ℕ) → IsVector n f xs → m ≤ n → IsVector m f (take m xs)
@@ -43,16 +43,12 @@ module _ (F : Lawful) (S : System) (formed : WellFormed S) where
   abbrev m : ℕ
   m = S.width
 
-  -- what a choice makes of a row goes by its first m codes
-  pub mul_vec-values : (f : ℕ → ℕ) (xs : List ℕ) (i : ℕ) → IsVector m f xs → mul_vec F.ops m A (choice xs) i ≡ mul_vec F.ops m A f i
-  mul_vec-values f xs i H = Σ-congr F m (λ c. A i c ⊗ choice xs c) (λ c. A i c ⊗ f c) (λ c h. ap (λ v. A i c ⊗ v) (H.each c h))
-
   module _ (P : Pivots) where
     -- what x leaves of a row
     pub row_left : (i : ℕ) → i < n → value_at F.ops S (about_rows (x_of F.ops S P)) i ≡ b i ⊕ negative (mul_vec F.ops m A (solution F.ops b P) i)
     row_left i h =
         row_value-is F S formed (choice (x_of F.ops S P)) i h
-        ∙ ap (λ w. b i ⊕ negative w) (mul_vec-values (solution F.ops b P) (x_of F.ops S P) i (values_hold m (solution F.ops b P)))
+        ∙ ap (λ w. b i ⊕ negative w) (mul_vec-congr F S formed (choice (x_of F.ops S P)) (solution F.ops b P) i (values_hold m (solution F.ops b P)).each)
 
     module _ (I : PivotsOf F.ops n m A P) where
       -- where that is not 0 the row is no pivot row

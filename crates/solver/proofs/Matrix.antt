@@ -62,7 +62,7 @@ module _ (F : Lawful) where
         ∙ Σ-congr F m (λ c. own c ⊗ δ t.minute c ⊕ product ts c) (product (t ∷ ts)) (λ c h. sym (more t ts none c))
 
 module _ (F : Lawful) (S : System) (formed : WellFormed S) where
-  open F.ops use {plus as ◌⊕◌, times as ◌⊗◌, negative, q}
+  open F.ops use {plus as ◌⊕◌, times as ◌⊗◌, negative}
 
   infixl 60 ◌⊕◌
   infixl 70 ◌⊗◌
@@ -81,9 +81,12 @@ module _ (F : Lawful) (S : System) (formed : WellFormed S) where
   SolvesAll-of_SatisfiesAll x xs i h = sym (weighted-mul_vec x i h) ∙ xs i h
 
   -- what x is beyond the width does not matter
+  pub mul_vec-congr : (x y : ℕ → ℕ) (i : ℕ) → ((c : ℕ) → c < S.width → x c ≡ y c) → mul_vec F.ops S.width A x i ≡ mul_vec F.ops S.width A y i
+  mul_vec-congr x y i same = Σ-congr F S.width (λ c. A i c ⊗ x c) (λ c. A i c ⊗ y c) (λ c h. ap (λ v. A i c ⊗ v) (same c h))
+
   pub SatisfiesAll-congr : (x y : ℕ → ℕ) → ((c : ℕ) → c < S.width → x c ≡ y c) → SatisfiesAll F.ops S x → SatisfiesAll F.ops S y
   SatisfiesAll-congr x y same xs i h =
       weighted-mul_vec y i h
-      ∙ sym (Σ-congr F S.width (λ c. A i c ⊗ x c) (λ c. A i c ⊗ y c) (λ c hc. ap (λ v. A i c ⊗ v) (same c hc)))
+      ∙ sym (mul_vec-congr x y i same)
       ∙ sym (weighted-mul_vec x i h)
       ∙ xs i h

@@ -6,11 +6,12 @@ use Rattle.frame.proofs.Apart.{err_ok}
 use Rattle.rows.specs.Systems.{System}
 use Rattle.algebra.specs.Pivots.{Pivots}
 use Rattle.solver.specs.declared.findings.Findings.{Findings}
-use Rattle.solver.specs.Outcomes.{Case, failed_case, IsFailed}
+use Rattle.solver.specs.declared.outcomes.Outcome.{Outcome}
+use Rattle.solver.specs.Outcomes.{Case, outcome_case, failed_case, IsFailed}
 use Rattle.solver.specs.Questions.{Asked, side, verified}
 use Rattle.solver.specs.Scouts.{ScoutMeaning}
-use Rattle.solver.specs.Runs.{Exchange, question, end, Writes, ending, named, question_of, continued}
-use Rattle.solver.specs.Steps.Turns.{state, exchanges_then, Continues}
+use Rattle.solver.specs.Runs.{Exchange, State, question, end, Writes, ending, named, question_of, continued}
+use Rattle.solver.specs.Steps.Turns.{state, ended, exchanges_then, Put, Continues}
 
 -- an answer verified, where the question has this number
 abbrev pub failed_or : ℕ → Asked → Result (Option ℕ) Case → Result (Option ℕ) Case
@@ -57,6 +58,12 @@ module _ {X : Type 0} (K : Operations) (S : System) (M : ScoutMeaning X) (P : Pi
           none = λ o f f' e ends writes. record { scout = moved; next = ends_none t (sym e ∙ answered) ∙ ap end (sym ends); writes = writes };
           place = λ i f e. record { scout = moved; next = goes_on t i (sym e ∙ answered); writes = refl };
         }
+
+-- the code hands on how a false answer ends the run
+pub put_failed : {X : Type 0} {K : Operations} {S : System} {M : ScoutMeaning X} {st : State} {from to : X} {f : Findings} {put : Result (Option ℕ) Outcome} (r : Result ℕ Outcome) (o : Outcome) →
+    Continues K S M st from to (ended put) → put ≡ Err o → r ≡ Err o → Put K S M st from to f f (ended r)
+put_failed {K = K} {S = S} {M = M} {st = st} {from = from} {to = to} {f = f} r o continues was is =
+    subst (λ r. Put K S M st from to f f (ended r)) (sym is) (continues.failed (outcome_case o) f (ap ended was))
 
 -- equal numbers of pivots and of questions
 pub same_counts : (told : ℕ → ℕ → Case) (p p' q q' : ℕ) → p ≡ p' → q ≡ q' → told p q ≡ told p' q'

@@ -9,14 +9,15 @@ use Rattle.algebra.proofs.Growth.{grow-PivotsOf}
 use Rattle.algebra.proofs.Pivots.{count-le_columns}
 use Rattle.algebra.specs.Profiles.{pivot_rows}
 use Rattle.solver.specs.declared.findings.Findings.{Findings}
-use Rattle.solver.specs.Outcomes.{Case, solved_case, contradiction_case, failed_case}
+use Rattle.solver.specs.declared.outcomes.Outcome.{Outcome}
+use Rattle.solver.specs.Outcomes.{Case, outcome_case, solved_case, contradiction_case, failed_case}
 use Rattle.solver.specs.Scouts.{ScoutMeaning}
 use Rattle.rows.specs.Systems.{sum_at}
 use Rattle.solver.specs.Steps.Pivots.{PivotsOfRows}
 use Rattle.solver.specs.Steps.Pivots.{SamePivots}
 use Rattle.solver.specs.Questions.{Asked, about_rows, about_columns, side, verified}
 use Rattle.solver.specs.Runs.{Exchange, State, Progress, question, end, Ran, question_of, next_question, exchanged, named, ending, continued, step, pivot_columns, run, Writes}
-use Rattle.solver.specs.Steps.Turns.{state, Put, TurnsTo, EndsIn}
+use Rattle.solver.specs.Steps.Turns.{state, ended, Put, TurnsTo, EndsIn}
 use Rattle.solver.proofs.Filling.{values_same}
 use Rattle.solver.proofs.Same.{solution-same, multipliers-same, grow-same, pivot_rows-same, pivot_columns-same}
 
@@ -121,9 +122,9 @@ module _ {X : Type 0} (F : Lawful) (S : System) (M : ScoutMeaning X) where
             put.writes ∙ rows.writes,
           )
 
--- what is at an error
-pub match_err : {T E : Type 0} (A : T → Type 0) (B : E → Type 0) (r : Result T E) (e : E) → r ≡ Err e → B e → MatchResult r A B
-match_err A B r e is b = subst (λ r. MatchResult r A B) (sym is) b
+-- what holds at how a run ended, of the answer that hands it on
+pub match_ended : {T : Type 0} (A : T → Type 0) (B : Case → Type 0) (r : Result T Outcome) (o : Outcome) → r ≡ Err o → B (outcome_case o) → MatchResult (ended r) A B
+match_ended A B r o is b = subst (λ r. MatchResult (ended r) A B) (sym is) b
 
 -- a pivot more
 module _ (F : Lawful) (S : System) (P : Pivots) (I : PivotsOfRows F.ops S P) (i j : ℕ) (hi : i < length S.rows) (hj : j < S.width) (some : schur F.ops (entry F.ops S) P i j ≢ 0) where

@@ -1,24 +1,21 @@
-use Rattle.std.proofs.Common.{◌≡◌, suc, ◌+◌, ◌*◌, length, None, Ok, Err, sym, ap, subst, arith, ◌∙◌, rules, tests}
+use Rattle.std.proofs.Common.{◌≡◌, suc, ◌+◌, ◌*◌, length, None, Ok, Err, ap, subst, arith, ◌∙◌, rules, tests}
 use Rattle.field.specs.LawsForAll.{lawful}
 use Rattle.field.specs.Slices.{Filled}
 use Rattle.rows.specs.Values.{choice}
 use Rattle.solver.specs.Questions.{question_codes}
-use Rattle.solver.specs.Outcomes.{outcome_case, solved_case}
+use Rattle.solver.specs.Outcomes.{solved_case}
 use Rattle.solver.specs.Steps.Spaces.{pivots_of}
-use Rattle.solver.specs.Steps.Turns.{state, ended, Put}
+use Rattle.solver.specs.Steps.Turns.{ended}
 use Rattle.solver.proofs.Asking.{rows_asked, row_named}
-use Rattle.solver.proofs.Puts.{same_counts}
+use Rattle.solver.proofs.Puts.{put_failed, same_counts}
 use Rattle.solver.proofs.runs.ask_rows.Goals as goal
 
 pub returns-in_err-row-clause-put : goal.returns-in_err-row-clause-put
 returns-in_err-row-clause-put g c exchanges many =
-    let S = g.R.Rows.system c.args.rows.now in
     let P = pivots_of c.args.pivots.now in
-    let same = rows_asked (lawful g.F.Field.ops g.met.F.Field.laws) S (g.met.R.Rows.formed c.args.rows.now) P c.requires c.solution-x.result c.width.result c.width.ensures c.solution-x.ensures in
-    let o = c.in_err-row.field-0.0 in
-    let ends : c.from_residual.result ≡ Err o = search (rules, tests) in
-    subst (λ r. Put g.F.Field.ops S g.S.Scout.meaning (state P None exchanges) c.args.scout.now c.put.new.scout c.args.findings.now c.args.findings.now (ended r)) (sym ends)
-    ((c.put.ensures.continues P None exchanges same (omega (arith, c.count.ensures, many))).failed (outcome_case o) c.args.findings.now (ap ended c.in_err-row.was))
+    let same = rows_asked (lawful g.F.Field.ops g.met.F.Field.laws) (g.R.Rows.system c.args.rows.now) (g.met.R.Rows.formed c.args.rows.now) P c.requires c.solution-x.result c.width.result c.width.ensures c.solution-x.ensures in
+    let ends : c.from_residual.result ≡ Err c.in_err-row.field-0.0 = search (rules, tests) in
+    put_failed c.from_residual.result c.in_err-row.field-0.0 (c.put.ensures.continues P None exchanges same (omega (arith, c.count.ensures, many))) c.in_err-row.was ends
 
 pub returns-in_default-clause-put : goal.returns-in_default-clause-put
 returns-in_default-clause-put g c exchanges many =

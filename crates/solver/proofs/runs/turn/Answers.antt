@@ -1,12 +1,11 @@
-use Rattle.std.proofs.Common.{◌≡◌, length, Err, ap, arith, rules, tests}
+use Rattle.std.proofs.Common.{length, arith, rules, tests}
 use Rattle.field.specs.LawsForAll.{lawful}
 use Rattle.rows.specs.Values.{entry}
 use Rattle.algebra.specs.Pivots.{grow}
 use Rattle.solver.specs.Outcomes.{outcome_case}
 use Rattle.solver.specs.Steps.Spaces.{pivots_of}
-use Rattle.solver.specs.Steps.Turns.{ended}
 use Rattle.solver.proofs.Same.{PivotsOf-same}
-use Rattle.solver.proofs.Running.{ends_at_rows, further, ends_at_columns, turns, match_err, grown_pivots, room}
+use Rattle.solver.proofs.Running.{ends_at_rows, further, ends_at_columns, turns, match_ended, grown_pivots, room}
 use Rattle.solver.proofs.runs.turn.Goals as goal
 
 pub returns-in_err-row-clause-turned : goal.returns-in_err-row-clause-turned
@@ -15,8 +14,7 @@ returns-in_err-row-clause-turned g c exchanges left many =
     let S = g.R.Rows.system c.args.rows.now in
     let P = pivots_of c.args.pivots.now in
     let o = c.in_err-row.field-0.0 in
-    let ends : c.from_residual.result ≡ Err o = search (rules, tests) in
-    match_err _ _ (ended c.from_residual.result) (outcome_case o) (ap ended ends)
+    match_ended _ _ c.from_residual.result o (search (rules, tests))
     (ends_at_rows F S g.S.Scout.meaning P exchanges left c.args.scout.now c.ask_rows.new.scout c.args.findings.now c.ask_rows.new.findings (outcome_case o) (c.in_err-row.ensures.put exchanges many))
 
 pub returns-in_err-minute-clause-turned : goal.returns-in_err-minute-clause-turned
@@ -30,8 +28,7 @@ returns-in_err-minute-clause-turned g c exchanges left many =
     let mid = c.ask_rows.new.scout in
     let to = c.ask_columns.new.scout in
     let exchanges' = further F S g.S.Scout.meaning P exchanges left from mid to c.args.findings.now c.ask_rows.new.findings c.ask_columns.new.findings i (c.in_ok-row.ensures.put exchanges many) in
-    let ends : c.from_residual-in_err-minute.result ≡ Err o = search (rules, tests) in
-    match_err _ _ (ended c.from_residual-in_err-minute.result) (outcome_case o) (ap ended ends)
+    match_ended _ _ c.from_residual-in_err-minute.result o (search (rules, tests))
     (ends_at_columns F S g.S.Scout.meaning P exchanges left from mid to c.args.findings.now c.ask_rows.new.findings c.ask_columns.new.findings i (c.in_ok-row.ensures.put exchanges many) (outcome_case o) (c.in_err-minute.ensures.put exchanges' (omega (arith, many))))
 
 pub grow-requires : goal.grow-requires
