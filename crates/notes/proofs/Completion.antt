@@ -75,7 +75,7 @@ module _ (F : Lawful) (codes : List (Option ℕ)) (S : System) (fit : NotesFit F
     none_left c h out free =
         let long = fit.long in
         let most =
-        free_at_most S.width (c ∷ columns) codes (omega arith) fit.below inside differ all_free in
+        free_at_most S.width (c ∷ columns) codes (omega arith) fit.minute inside differ all_free in
         omega arith
       where
         inside : All (λ d. d < S.width) (c ∷ columns)

@@ -18,4 +18,4 @@ no_codes_fit K m codes e = subst (NotesFit K m) (sym e) none_fit
     none c code f = none-some code (sym (none_of 64 c) ∙ f)
 
     none_fit : NotesFit K m no_codes
-    none_fit = record { long = length-replicate {A = Option ℕ} 64 None; below = λ c code f. absurd (none c code f); code = λ c code f. absurd (none c code f) }
+    none_fit = record { long = length-replicate {A = Option ℕ} 64 None; minute = λ c code f. absurd (none c code f); code = λ c code f. absurd (none c code f) }

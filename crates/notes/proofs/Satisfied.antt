@@ -66,7 +66,7 @@ module _ (F : Lawful) (codes : List (Option ℕ)) (x : ℕ → ℕ) where
 -- codes put into the first n places of a slice, with all minutes among them, are all put in
 module _ (K : Operations) (m : ℕ) (codes : List (Option ℕ)) (fit : NotesFit K m codes) (xs ys : List ℕ) (n : ℕ) (whole : m ≤ n) (filled : Filled n (put_in codes (choice xs)) xs ys) where
   put_beyond : (c : ℕ) (code : Option ℕ) → noted_code codes c ≡ code → n ≤ c → unwrap_or code (choice xs c) ≡ choice ys c
-  put_beyond c (Some k) e h = absurd (let l = fit.below c k e in omega arith)
+  put_beyond c (Some k) e h = absurd (let l = fit.minute c k e in omega arith)
   put_beyond c None e h = sym (filled.kept c h)
 
   put_at : (c : ℕ) → put_in codes (choice xs) c ≡ choice ys c

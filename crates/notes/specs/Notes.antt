@@ -70,7 +70,7 @@ after_note (Err e) codes c code = codes
 -- the width
 pub record NotesFit (K : Operations) (m : ℕ) (codes : List (Option ℕ)) : Type 0 where
   pub long : length codes ≡ MOST_MINUTES
-  pub below : (c code : ℕ) → noted_code codes c ≡ Some code → c < m
+  pub minute : (c code : ℕ) → noted_code codes c ≡ Some code → c < m
   pub code : (c code : ℕ) → noted_code codes c ≡ Some code → code < K.q
 
 -- there is one proof of it at most

@@ -8,7 +8,7 @@ use Rattle.notes.proofs.layers.Noted.noted_count.Goals as goal
 pub returns-clause-at_most : goal.returns-clause-at_most
 returns-clause-at_most g c =
     let noted = c.args.self.now in
-    let most = count_at_most (system_below noted).width (codes_in noted) noted.fits.below in
+    let most = count_at_most (system_below noted).width (codes_in noted) noted.fits.minute in
     omega (arith, most, c.count.ensures)
 
 pub returns-clause-whole : goal.returns-clause-whole
