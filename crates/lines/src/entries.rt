@@ -10,16 +10,18 @@ use super::reading::{read_fields, split_kind};
 use frame::buffers::FrameBuf;
 use frame::refusals::Refusal;
 
-// What a line says, by its kind.
+/// What a line says, by its kind.
 #[derive(Clone, Copy)]
 pub enum Entry {
-    // an hour is opened
+    /// An hour is opened.
     Open(Opening),
-    // a frame
+    /// A frame.
     Frame(FrameBuf),
 }
 
-// What a line says.
+/// What a line says. Refuses a line over 256 bytes or with an unknown letter (13), then a wrong
+/// number of fields (14), then a field that is no number or no name (15) at the offset of its first
+/// byte, then terms that make no frame (10 to 12).
 pub fn read_entry(line: &[u8]) -> Result<Entry, Refusal>
     ensures value { numbered_as said result ≡ read_entry line.now }
     ensures exact { ReadsEntry line.now (numbered_as said result) }

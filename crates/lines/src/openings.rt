@@ -9,16 +9,17 @@ use super::reading::read_number;
 use super::tokens::Kind;
 use frame::refusals::Refusal;
 
-// The field to calculate in, by its name.
+/// The field to calculate in, by its name.
 #[derive(Clone, Copy, PartialEq, Eq, Debug)]
 pub enum FieldName {
-    // P: the integers modulo 65521
+    /// P: the integers modulo 65521.
     Prime,
-    // B: the octets
+    /// B: the octets.
     Octets,
 }
 
-// What opens an hour: a field, and how many minutes there are. Any word: a check of the width looks at it.
+/// What opens an hour: a field to calculate in, and how many minutes there are. The width is any
+/// word here; whoever opens the hour tests it.
 #[derive(Clone, Copy, PartialEq, Eq, Debug)]
 pub struct Opening {
     pub field: FieldName,

@@ -3,7 +3,8 @@ ghost use Rattle.std.specs.Prelude.{◌≡◌, ◌+◌, length, drop};
 ghost use Rattle.frame.specs.Refusals.{numbered, numbered_as};
 ghost use Rattle.lines.specs.Tokens.{to_come, first_letter};
 ghost use Rattle.lines.specs.Kinds.{line_kind};
-ghost use Rattle.lines.specs.Reading.{content_of, SplitKind, first_number, ReadsTerms, read_fields, read, ReadsFrame};
+ghost use Rattle.lines.specs.Reading.{content_of, SplitKind, first_number, ReadsTerms};
+ghost use Rattle.lines.specs.Reading.{read_fields, read, ReadsFrame};
 
 use super::fields::{Fields, count_fields};
 use super::kinds::LineKind;
@@ -15,7 +16,7 @@ use frame::frames::Frame;
 use frame::refusals::Refusal;
 use frame::terms::Term;
 
-// A line is at most so many bytes when it is read.
+/// A line is at most so many bytes when it is read.
 pub const MOST_BYTES: usize = 256;
 
 // The letter that the next field is.
@@ -29,7 +30,8 @@ fn read_letter(fields: &mut Fields<'_>) -> Option<char>
     }
 }
 
-// The kind of a line, and the fields behind its letter; none where the line is too long or its letter is unknown.
+// The kind of a line, and the fields behind its letter; none where the line is too long or its
+// letter is unknown.
 pub(crate) fn split_kind(line: &[u8]) -> Option<(LineKind, Fields<'_>)>
     ensures { SplitKind line.now result }
 {
@@ -41,7 +43,8 @@ pub(crate) fn split_kind(line: &[u8]) -> Option<(LineKind, Fields<'_>)>
     Some((kind, fields))
 }
 
-// The kind of a line; none where it is unknown.
+/// The kind of a line; none where its letter is unknown, or the line is over 256 bytes. The fields
+/// behind the letter do not matter.
 pub fn line_kind(line: &[u8]) -> Option<LineKind>
     ensures { result ≡ line_kind line.now }
 {
@@ -61,7 +64,8 @@ pub(crate) fn read_number(fields: &mut Fields<'_>) -> Result<u16, Refusal>
 }
 
 // So many terms from the fields to come. A frame has at most sixteen, so no more are kept.
-// Fields with their number, here and below: it is counted once for the line, and a struct would serve two calls.
+// Fields with their number, here and below: it is counted once for the line, and a struct would
+// serve two calls.
 fn read_terms(mut fields: Fields<'_>, count: usize) -> Result<ArrayVec<Term, MOST_TERMS>, Refusal>
     requires { length (to_come fields) ≡ count + count }
     ensures { ReadsTerms (to_come fields.entry) count (numbered result) }
@@ -95,7 +99,9 @@ pub(crate) fn read_fields(mut fields: Fields<'_>, count: usize) -> Result<FrameB
     Ok(FrameBuf::from(&frame))
 }
 
-// The frame that a line carries.
+/// The frame that a line carries. Refuses a line over 256 bytes or of another kind (13), then a
+/// wrong number of fields (14), then a field that is no number (15) at the offset of its first byte,
+/// then terms that make no frame (10 to 12).
 pub fn read_frame(line: &[u8]) -> Result<FrameBuf, Refusal>
     ensures value { numbered_as content_of result ≡ read line.now }
     ensures exact { ReadsFrame line.now (numbered_as content_of result) }
