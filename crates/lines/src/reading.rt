@@ -100,8 +100,8 @@ pub(crate) fn read_fields(mut fields: Fields<'_>, count: usize) -> Result<FrameB
 }
 
 /// The frame that a line carries. Refuses a line over 256 bytes or of another kind (13), then a
-/// wrong number of fields (14), then a field that is no number (15) at the offset of its first byte,
-/// then terms that make no frame (10 to 12).
+/// wrong number of fields (14), then a field that is no number (15) at the offset of its first
+/// byte, then terms that make no frame (10 to 12).
 pub fn read_frame(line: &[u8]) -> Result<FrameBuf, Refusal>
     ensures value { numbered_as content_of result ≡ read line.now }
     ensures exact { ReadsFrame line.now (numbered_as content_of result) }
