@@ -16,8 +16,12 @@ pub record OpenHour : Type 0 where
 
 -- the hour that is opened, for a width of 1 to 64: it has no rows
 abbrev pub opened : Opening → Result OpenHour RefusalCase
-opened o = map_ok (λ width. record { field = o.field; system = record { width = width; rows = [] } }) (size_answer MOST_MINUTES o.width)
+opened o =
+    map_ok (λ width. record { field = o.field; system = record { width = width; rows = [] } })
+    (size_answer MOST_MINUTES o.width)
 
 -- what a table takes of a row: it has room for 96
 abbrev pub filled : OpenHour → Row → OpenHour
-filled h r = record { field = h.field; system = after_take (take_answer h.system MOST_ROWS r) h.system r }
+filled h r =
+    let answer = take_answer h.system MOST_ROWS r in
+    record { field = h.field; system = after_take answer h.system r }

@@ -1,5 +1,6 @@
 -- What each line answers and leaves, by the hour that is open. Assumes nothing.
-use Rattle.std.specs.Prelude.{◌≡◌, ℕ, Bool, cond, List, [], ◌∷◌, ◌++◌, take, Some, None, Ok, Err, Option, Result}
+use Rattle.std.specs.Prelude.{◌≡◌, ℕ, Bool, cond, List, [], ◌∷◌, ◌++◌, take}
+use Rattle.std.specs.Prelude.{Some, None, Ok, Err, Option, Result}
 use Rattle.std.specs.Option.{is_some, is_none}
 use Rattle.frame.specs.Refusals.{RefusalCase, refused}
 use Rattle.lines.specs.declared.kinds.LineKind.{LineKind}
@@ -21,8 +22,10 @@ abbrev pub in_turn : Option OpenHour → LineKind → Bool
 in_turn hour Open = is_none hour
 in_turn hour Frame = is_some hour
 
--- what a line says, which has this kind and reads like that; unknown or out of turn it is refused by 13, whatever else it says
-abbrev pub heard_as : Option OpenHour → Option LineKind → Result Said RefusalCase → Result Said RefusalCase
+-- what a line says, which has this kind and reads like that; unknown or out of turn it is refused
+-- by 13, whatever else it says
+abbrev pub heard_as :
+    Option OpenHour → Option LineKind → Result Said RefusalCase → Result Said RefusalCase
 heard_as hour None entry = Err (refused 13 0)
 heard_as hour (Some kind) entry = cond (in_turn hour kind) entry (Err (refused 13 0))
 
@@ -80,11 +83,14 @@ session_machine = record {
 }
 
 -- a line is heard as its front is
-front_heard : (hour : Option OpenHour) (line : List ℕ) → heard hour (take 257 line) ≡ heard hour line
+front_heard :
+    (hour : Option OpenHour) (line : List ℕ) → heard hour (take 257 line) ≡ heard hour line
 front_heard hour line = λ i. heard_as hour (front_kind line i) (front_entry line i)
 
 pub knows_fronts : KnowsFronts session_machine
 knows_fronts = record {
-  output = λ hour line i. answer_line (front_kind line i) (and_then (front_heard hour line i) (entry_answer hour)) ++ 10 ∷ [];
+  output = λ hour line i.
+      let answer = and_then (front_heard hour line i) (entry_answer hour) in
+      answer_line (front_kind line i) answer ++ 10 ∷ [];
   next = λ hour line i. after_heard hour (front_heard hour line i);
 }
