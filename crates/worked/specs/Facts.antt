@@ -24,11 +24,27 @@ row b ts = record { sum = b; terms = ts }
 
 -- x₀ = 5, x₀ + x₁ = 12, 2 · x₀ + x₁ = 18
 abbrev pub three_rows : System
-three_rows = record { width = 2; rows = row 5 (term 0 1 ∷ []) ∷ row 12 (term 0 1 ∷ term 1 1 ∷ []) ∷ row 18 (term 0 2 ∷ term 1 1 ∷ []) ∷ [] }
+three_rows =
+    record {
+      width = 2;
+      rows =
+          row 5 (term 0 1 ∷ [])
+          ∷ row 12 (term 0 1 ∷ term 1 1 ∷ [])
+          ∷ row 18 (term 0 2 ∷ term 1 1 ∷ [])
+          ∷ [];
+    }
 
 -- the rows (1,1), (2,2) and (0,1)
 abbrev pub dependent_rows : System
-dependent_rows = record { width = 2; rows = row 0 (term 0 1 ∷ term 1 1 ∷ []) ∷ row 0 (term 0 2 ∷ term 1 2 ∷ []) ∷ row 0 (term 1 1 ∷ []) ∷ [] }
+dependent_rows =
+    record {
+      width = 2;
+      rows =
+          row 0 (term 0 1 ∷ term 1 1 ∷ [])
+          ∷ row 0 (term 0 2 ∷ term 1 2 ∷ [])
+          ∷ row 0 (term 1 1 ∷ [])
+          ∷ [];
+    }
 
 -- a settle of rows in the integers modulo 65521 by the scan
 abbrev pub settled : System → Option (Ran (Unit {0}))
@@ -42,18 +58,26 @@ pub record WorkedFacts : Type 0 where
   pub octet_product : octets.times 2 128 ≡ 29
   pub octet_inverse : reciprocal octets 2 ≡ Some 142
   pub octet_power : power 255 ≡ 1
-  -- 5 and 7 leave 1 of the third row, though its terms are those of the others added up: (−1, −1, 1) makes each column 0
+  -- 5 and 7 leave 1 of the third row, though its terms are those of the others added up:
+  -- (−1, −1, 1) makes each column 0
   pub third_row_left : row_value (modulo 65521) (row_at three_rows 2) (choice (5 ∷ 7 ∷ [])) ≡ 1
   pub first_column : column_value (modulo 65521) three_rows (choice (65520 ∷ 65520 ∷ 1 ∷ [])) 0 ≡ 0
   pub last_column : column_value (modulo 65521) three_rows (choice (65520 ∷ 65520 ∷ 1 ∷ [])) 1 ≡ 0
   -- with 7 noted for the last minute
-  pub third_row_noted : row_under (modulo 65521) (None ∷ Some 7 ∷ []) (row_at three_rows 2) ≡ row 11 (term 0 2 ∷ [])
+  pub third_row_noted :
+      row_under (modulo 65521) (None ∷ Some 7 ∷ []) (row_at three_rows 2)
+      ≡ row 11 (term 0 2 ∷ [])
   -- of the rows (1,1), (2,2) and (0,1) the second is a combination of the first
   pub profile : profile_of (modulo 65521) dependent_rows ≡ 0 ∷ 2 ∷ []
-  -- the settle of the three rows ends, after six questions and with two pivots, with this contradiction
-  pub contradiction : option_map (λ r. r.outcome) (settled three_rows) ≡ Some (contradiction_case 2 6)
-  pub blame : option_map (λ r. last_codes r.exchanges) (settled three_rows) ≡ Some (65520 ∷ 65520 ∷ 1 ∷ [])
-  -- the numbers that constants name: terms of a frame, minutes of a frame and of an hour, rows of a ledger, words of a work space
+  -- the settle of the three rows ends, after six questions and with two pivots, with this
+  -- contradiction
+  pub contradiction :
+      option_map (λ r. r.outcome) (settled three_rows) ≡ Some (contradiction_case 2 6)
+  pub blame :
+      option_map (λ r. last_codes r.exchanges) (settled three_rows)
+      ≡ Some (65520 ∷ 65520 ∷ 1 ∷ [])
+  -- the numbers that constants name: terms of a frame, minutes of a frame and of an hour, rows of a
+  -- ledger, words of a work space
   pub most_terms : MOST_TERMS ≡ 16
   pub minutes : MINUTES ≡ 64
   pub most_minutes : MOST_MINUTES ≡ 64

@@ -1,5 +1,5 @@
-//! Worked examples, as tests of the crates below, with a third field for them; and worked facts of the definitions.
-//! It is a crate of its own, so that the crates below are not proved twice.
+//! Worked examples, as tests of the crates below, with a third field for them; and worked facts of
+//! the definitions. It is a crate of its own, so that the crates below are not proved twice.
 #![tactic(auto)]
 
 pub mod facts;
@@ -137,10 +137,8 @@ mod tests {
         write_answer(&mut out, Some(LineKind::Open), Err(Refusal::UnknownLine))?;
         write_answer(&mut out, None, Err(Refusal::UnknownLine))?;
         write_answer(&mut out, Some(LineKind::Frame), Err(Refusal::LedgerFull))?;
-        assert!(rt;
-            out.as_slice()
-                == b"O,ok,7\nO,refused,line,13,0\n?,refused,line,13,0\nF,refused,block,5,0\n".as_slice()
-        );
+        let wanted = b"O,ok,7\nO,refused,line,13,0\n?,refused,line,13,0\nF,refused,block,5,0\n";
+        assert!(rt; out.as_slice() == wanted.as_slice());
         Ok(())
     }
 
@@ -182,7 +180,8 @@ mod tests {
         let log = b"F,5,0,1\nO,P,65\nO,P,2\nO,B\nF,5,0,1\nF\nF,5,2,1\nS\nF,12,0,1,1,1";
         let session = answer_log(Session::new(), &mut out, log)?;
         let wanted =
-            b"F,refused,line,13,0\nO,refused,block,16,0\nO,ok,2\nO,refused,line,13,0\nF,ok,0\nF,refused,line,14,0\nF,refused,block,2,0\n?,refused,line,13,0\nF,ok,1\n";
+            b"F,refused,line,13,0\nO,refused,block,16,0\nO,ok,2\nO,refused,line,13,0\nF,ok,0\n\
+              F,refused,line,14,0\nF,refused,block,2,0\n?,refused,line,13,0\nF,ok,1\n";
         assert!(rt; out.as_slice() == wanted.as_slice());
         let hour = session.hour().ok_or("no hour")?;
         assert_eq!(rt; hour.field(), FieldName::Prime);

@@ -126,8 +126,8 @@ fn noted_rows<F: Field>(rt: &impl Abort) -> Result<Noted<F, Table>, Fail> {
     Ok(noted)
 }
 
-// The values wanted: the sums under the notes. These take 2 · 1 + 4 · 2 off each, which is 10 in both fields; 65535 is 14
-// modulo 65521, and 255 in the octets.
+// The values wanted: the sums under the notes. These take 2 · 1 + 4 · 2 off each, which is 10 in
+// both fields; 65535 is 14 modulo 65521, and 255 in the octets.
 fn notes_work<F: Field>(rt: &impl Abort, sums: [u16; 3]) -> Result<(), Fail> {
     let noted: Noted<F, Table> = noted_rows(rt)?;
     assert_eq!(rt; noted.noted_count(), 2);

@@ -80,7 +80,8 @@ fn holds(rt: &impl Abort, list: &[u16], head: &[u16], rest: u16) {
     }
 }
 
-// The scan ends so and writes these minutes or this blame to the head of the record's, and nothing else.
+// The scan ends so and writes these minutes or this blame to the head of the record's, and nothing
+// else.
 fn settles<F: Field, R: Rows>(
     rt: &impl Abort,
     rows: &R,
@@ -98,7 +99,8 @@ fn settles<F: Field, R: Rows>(
     holds(rt, &findings.blame, blame, 8);
 }
 
-// A scout that answers falsely after so many true answers fails the settle, which writes nothing and asks it no more.
+// A scout that answers falsely after so many true answers fails the settle, which writes nothing
+// and asks it no more.
 fn fails<F: Field>(
     rt: &impl Abort,
     table: &Table,
