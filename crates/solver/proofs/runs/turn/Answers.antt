@@ -10,12 +10,9 @@ use Rattle.solver.proofs.runs.turn.Goals as goal
 
 pub returns-in_err-row-clause-turned : goal.returns-in_err-row-clause-turned
 returns-in_err-row-clause-turned g c exchanges left many =
-    let F = lawful g.F.Field.ops g.met.F.Field.laws in
-    let S = g.R.Rows.system c.args.rows.now in
-    let P = pivots_of c.args.pivots.now in
-    let o = c.in_err-row.field-0.0 in
-    match_ended _ _ c.from_residual.result o (search (rules, tests))
-    (ends_at_rows F S g.S.Scout.meaning P exchanges left c.args.scout.now c.ask_rows.new.scout c.args.findings.now c.ask_rows.new.findings (outcome_case o) (c.in_err-row.ensures.put exchanges many))
+    match_ended _ _ c.from_residual.result c.in_err-row.field-0.0 (search (rules, tests))
+    (ends_at_rows (lawful g.F.Field.ops g.met.F.Field.laws) (g.R.Rows.system c.args.rows.now) g.S.Scout.meaning (pivots_of c.args.pivots.now) exchanges left
+    c.args.scout.now c.ask_rows.new.scout c.args.findings.now c.ask_rows.new.findings (outcome_case c.in_err-row.field-0.0) (c.in_err-row.ensures.put exchanges many))
 
 pub returns-in_err-minute-clause-turned : goal.returns-in_err-minute-clause-turned
 returns-in_err-minute-clause-turned g c exchanges left many =
