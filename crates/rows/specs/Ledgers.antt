@@ -1,6 +1,6 @@
 -- What the calls of a ledger answer and leave. Assumes nothing.
 use Rattle.std.specs.Prelude.{ℕ, ◌<◌, ◌≤◌, List, [], ◌∷◌, ◌++◌, length, Ok, Err, Option, Result}
-use Rattle.std.specs.Prelude.{nat_le, slice_set}
+use Rattle.std.specs.Prelude.{min, nat_le, slice_set}
 use Rattle.std.specs.List.{position_from}
 use Rattle.frame.specs.declared.terms.Term.{Term}
 use Rattle.frame.specs.declared.frames.Frame.{Frame}
@@ -55,6 +55,11 @@ after_strike (Err e) S i = S
 
 abbrev pub cleared : System → System
 cleared S = record { width = S.width; rows = [] }
+
+-- the smallest of some limits and of 96
+abbrev pub smallest_of : List ℕ → ℕ
+smallest_of [] = MOST_ROWS
+smallest_of (limit ∷ limits) = min limit (smallest_of limits)
 
 -- a ledger's limit
 pub record LimitInRange (limit : ℕ) : Type 0 where

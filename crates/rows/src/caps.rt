@@ -10,7 +10,6 @@ ghost use Rattle.rows.specs.Values.{OthersSatisfied};
 ghost use Rattle.rows.specs.Caps.{own_number, ledger_below, cap_system, cap_limit, cap_limits};
 ghost use Rattle.rows.specs.Caps.{two_caps_system, two_caps_limit, two_caps_limits};
 ghost use Rattle.rows.specs.Caps.{NestedCapsLaw};
-ghost use Rattle.rows.specs.Lemmas.Limits.{smaller_limit};
 
 use crate::ledgers::{Ledger, admit};
 use crate::reading::Rows;
@@ -77,12 +76,18 @@ impl<L: Ledger> Rows for Cap<L> {
 }
 
 impl<L: Ledger> Ledger for Cap<L> {
+    ghost use Rattle.std.specs.Prelude.{min};
+    ghost use Rattle.std.proofs.Common.{ap};
+    ghost use Rattle.rows.specs.Lemmas.Limits.{smaller_limit};
+
     ghost most = { cap_limit L.most };
 
     ghost limits = { cap_limits L.limits };
 
     ghost limited = { λ cap.
         smaller_limit cap.own.number (L.most cap.below) cap.own.some (L.limited cap.below) };
+
+    ghost smallest = { λ cap. ap (min cap.own.number) (L.smallest cap.below) };
 
     fn limit(&self) -> usize {
         self.own.number().min(self.below.limit())

@@ -3,7 +3,7 @@ ghost use Rattle.std.specs.Prelude.{◌≡◌, ℕ, List};
 ghost use Rattle.frame.specs.Refusals.{numbered};
 ghost use Rattle.frame.specs.Orders.{KeepsOrder};
 ghost use Rattle.frame.specs.Parts.{terms_of};
-ghost use Rattle.rows.specs.Ledgers.{LimitInRange, row_of, first_beyond, admitted};
+ghost use Rattle.rows.specs.Ledgers.{LimitInRange, smallest_of, row_of, first_beyond, admitted};
 ghost use Rattle.rows.specs.Ledgers.{take_answer, take_order, after_take};
 ghost use Rattle.rows.specs.Ledgers.{strike_answer, after_strike, cleared};
 ghost use Rattle.rows.specs.Values.{OthersSatisfied};
@@ -12,9 +12,9 @@ use crate::reading::Rows;
 use frame::frames::Frame;
 use frame::refusals::Refusal;
 
-/// A ledger: rows that come from frames, one for each. No call changes the width, the limit, or
-/// any of the limits that it comes from: the own numbers of the caps, the outermost first, and
-/// last the limit of the ledger below them all.
+/// A ledger: rows that come from frames, one for each. Its limit is the smallest of its limits: the
+/// own numbers of the caps, the outermost first, and last the limit of the ledger below them all.
+/// No call changes the width, the limit, or any of these limits.
 pub trait Ledger: Rows {
     ghost most: { Self → ℕ };
 
@@ -55,6 +55,8 @@ pub trait Ledger: Rows {
         ensures limits { limits self.new ≡ limits self.old };
 
     ghost limited: { (ledger : Self) → LimitInRange (most ledger) };
+
+    ghost smallest: { (ledger : Self) → most ledger ≡ smallest_of (limits ledger) };
 }
 
 /// The number of the first term whose minute is not below the width, counted from 0; none where all

@@ -96,7 +96,7 @@ impl Rows for Table {
 }
 
 impl Ledger for Table {
-    ghost use Rattle.std.specs.Prelude.{◌∷◌, []};
+    ghost use Rattle.std.specs.Prelude.{◌∷◌, [], refl};
     ghost use Rattle.rows.specs.Lemmas.SlotRows.{table_limited};
 
     ghost most = { λ _. MOST_ROWS };
@@ -104,6 +104,8 @@ impl Ledger for Table {
     ghost limits = { λ _. MOST_ROWS ∷ [] };
 
     ghost limited = { table_limited };
+
+    ghost smallest = { λ _. refl };
 
     fn limit(&self) -> usize {
         MOST_ROWS
