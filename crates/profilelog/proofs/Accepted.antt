@@ -16,7 +16,7 @@ use Rattle.lines.proofs.Exact.{opened}
 use Rattle.lines.proofs.Opened.{kind_said, kind_read, reads_entry}
 use Rattle.rows.specs.Systems.{System, Row}
 use Rattle.rows.specs.Ledgers.{take_answer, after_take}
-use Rattle.rows.specs.Lemmas.Beyond.{taken_below, taken_room}
+use Rattle.rows.proofs.Beyond.{taken_below, taken_room}
 use Rattle.profilelog.specs.Hours as hours
 use Rattle.profilelog.specs.Hours.{OpenHour}
 use Rattle.profilelog.specs.Sessions.{in_turn, heard_as, heard, opened_or, row, entry_answer, after_entry, line_answer, after_heard, after_line}

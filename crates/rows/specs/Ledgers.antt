@@ -19,20 +19,25 @@ row_of f = record { sum = sum_of f; terms = terms_of f }
 abbrev pub first_beyond : ℕ → ℕ → List Term → Option ℕ
 first_beyond m at ts = position_from (λ t. nat_le m t.minute) at ts
 
--- take's answer with n rows there: the first term beyond the width is refused before a full ledger
-abbrev pub admitted : Option ℕ → ℕ → ℕ → Result ℕ RefusalCase
-admitted beyond n limit = refuse 2 beyond (refuse 5 (when (nat_le limit n)) (Ok n))
+-- the answer to a frame's terms where there are m minutes and n rows: the first term beyond the
+-- width is refused before a full ledger
+abbrev pub admit_answer : ℕ → ℕ → ℕ → List Term → Result ℕ RefusalCase
+admit_answer m n limit ts = refuse 2 (first_beyond m 0 ts) (refuse 5 (when (nat_le limit n)) (Ok n))
 
 abbrev pub take_answer : System → ℕ → Row → Result ℕ RefusalCase
-take_answer S limit r = admitted (first_beyond S.width 0 r.terms) (length S.rows) limit
+take_answer S limit r = admit_answer S.width (length S.rows) limit r.terms
 
 -- a term's minute is not below the width
-abbrev pub BeyondWidth : System → List Term → ℕ → Type 0
-BeyondWidth S ts k = (k < length ts) × (S.width ≤ minute_at ts k)
+abbrev pub BeyondWidth : ℕ → List Term → ℕ → Type 0
+BeyondWidth m ts k = (k < length ts) × (m ≤ minute_at ts k)
 
--- the order in which take refuses: 2 for a minute beyond the width, then 5 for a full ledger
+-- the order in which a frame is refused where there are m minutes and n rows: 2 for a minute beyond
+-- the width, then 5 for a full ledger
+abbrev pub admit_order : ℕ → ℕ → ℕ → List Term → Order
+admit_order m n limit ts = rule 2 (BeyondWidth m ts) (rule 5 (AtStart (limit ≤ n)) no_rule)
+
 abbrev pub take_order : System → ℕ → List Term → Order
-take_order S limit ts = rule 2 (BeyondWidth S ts) (rule 5 (AtStart (limit ≤ length S.rows)) no_rule)
+take_order S limit ts = admit_order S.width (length S.rows) limit ts
 
 abbrev pub appended : System → Row → System
 appended S r = record { width = S.width; rows = S.rows ++ (r ∷ []) }

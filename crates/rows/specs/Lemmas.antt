@@ -1,5 +1,3 @@
--- Facts that an `impl` names, and those on which the proofs of other crates rest. Nothing that a
--- contract says is defined here.
-pub mod Beyond
+-- Facts that an `impl` names, and what these rest on. Nothing that a contract says is defined here.
 pub mod Limits
 pub mod SlotRows

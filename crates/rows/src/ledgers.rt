@@ -3,7 +3,8 @@ ghost use Rattle.std.specs.Prelude.{◌≡◌, ℕ, List};
 ghost use Rattle.frame.specs.Refusals.{numbered};
 ghost use Rattle.frame.specs.Orders.{KeepsOrder};
 ghost use Rattle.frame.specs.Parts.{terms_of};
-ghost use Rattle.rows.specs.Ledgers.{LimitInRange, smallest_of, row_of, first_beyond, admitted};
+ghost use Rattle.rows.specs.Ledgers.{LimitInRange, smallest_of, row_of, first_beyond};
+ghost use Rattle.rows.specs.Ledgers.{admit_answer, admit_order};
 ghost use Rattle.rows.specs.Ledgers.{take_answer, take_order, after_take};
 ghost use Rattle.rows.specs.Ledgers.{strike_answer, after_strike, cleared};
 ghost use Rattle.rows.specs.Values.{OthersSatisfied};
@@ -73,7 +74,9 @@ pub fn first_beyond(frame: &Frame<'_>, width: usize) -> Option<usize>
 /// The number that a frame's row gets in a ledger of this width and limit that holds `rows` rows.
 /// Refuses as `take` does (2, at the first term beyond the width, then 5).
 pub fn admit(frame: &Frame<'_>, width: usize, rows: usize, limit: usize) -> Result<usize, Refusal>
-    ensures { numbered result ≡ admitted (first_beyond width 0 (terms_of frame.now)) rows limit }
+    ensures answer { numbered result ≡ admit_answer width rows limit (terms_of frame.now) }
+    ensures order { let order = admit_order width rows limit (terms_of frame.now) in
+        KeepsOrder order (numbered result) }
 {
     match first_beyond(frame, width) {
         Some(term) => Err(Refusal::MinuteBeyondWidth(term)),

@@ -1,7 +1,8 @@
 use Rattle.std.proofs.Common.{rules, refl, sym, ap, subst}
 use Rattle.rows.specs.Values.{OthersSatisfied}
 use Rattle.rows.specs.Tables.{system_of}
-use Rattle.rows.specs.Lemmas.SlotRows.{row_count, rows_struck, slots_fit}
+use Rattle.rows.specs.Lemmas.SlotRows.{row_count, slots_fit}
+use Rattle.rows.proofs.SlotChanges.{rows_struck}
 use Rattle.rows.proofs.Strikes.{struck_others}
 use Rattle.rows.proofs.tables.TableLedger.strike.Goals as goal
 

@@ -1,4 +1,4 @@
--- What take's answer tells of a row, and in which order it refuses. Assumes nothing.
+-- What take's answer tells of a row, and in which order a frame is refused. Assumes nothing.
 use Rattle.std.specs.Prelude.{◌≡◌, ℕ, ◌<◌, ◌≤◌, Bool, true, false, List, length, Some, None, Ok, Option, Result, nat_le, refl}
 use Rattle.std.proofs.Common.{sym, subst, arith}
 use Rattle.std.proofs.lemmas.Bool.{leb-true, leb-false, le-leb}
@@ -10,7 +10,7 @@ use Rattle.frame.proofs.Apart.{err_ok}
 use Rattle.frame.proofs.Orders.{Finds, Passes, accepted, refused_first, finds_when, finds_position, finds_same}
 use Rattle.frame.proofs.Positions.{none_passes}
 use Rattle.rows.specs.Systems.{Row, System}
-use Rattle.rows.specs.Ledgers.{first_beyond, take_answer, BeyondWidth, take_order}
+use Rattle.rows.specs.Ledgers.{first_beyond, admit_answer, take_answer, BeyondWidth, admit_order}
 
 -- where no term is beyond, all minutes are below
 pub none_beyond : (m at : ℕ) (ts : List Term) → first_beyond m at ts ≡ None → (k : ℕ) → k < length ts → minute_at ts k < m
@@ -35,27 +35,27 @@ module _ (S : System) (limit : ℕ) (r : Row) (row : ℕ) (taken : Ok row ≡ ta
   pub taken_number : row ≡ length S.rows
   taken_number = parts.2
 
--- take refuses in order
-module _ (S : System) (limit : ℕ) (r : Row) where
-  finds_beyond : Finds (BeyondWidth S r.terms) (first_beyond S.width 0 r.terms)
+-- a frame is refused in order
+module _ (m n limit : ℕ) (ts : List Term) where
+  finds_beyond : Finds (BeyondWidth m ts) (first_beyond m 0 ts)
   finds_beyond =
-      finds_same (Passes (λ (t : Term). nat_le S.width t.minute) no_term r.terms) (BeyondWidth S r.terms)
-      (λ k p. (p.0, leb-true S.width (minute_at r.terms k) p.1))
-      (λ k b. (b.0, le-leb S.width (minute_at r.terms k) b.1))
-      (first_beyond S.width 0 r.terms)
-      (finds_position (λ (t : Term). nat_le S.width t.minute) no_term r.terms)
+      finds_same (Passes (λ (t : Term). nat_le m t.minute) no_term ts) (BeyondWidth m ts)
+      (λ k p. (p.0, leb-true m (minute_at ts k) p.1))
+      (λ k b. (b.0, le-leb m (minute_at ts k) b.1))
+      (first_beyond m 0 ts)
+      (finds_position (λ (t : Term). nat_le m t.minute) no_term ts)
 
-  finds_full : Finds (AtStart (limit ≤ length S.rows)) (when (nat_le limit (length S.rows)))
+  finds_full : Finds (AtStart (limit ≤ n)) (when (nat_le limit n))
   finds_full =
-      finds_when (limit ≤ length S.rows) (nat_le limit (length S.rows)) (leb-true limit (length S.rows))
-      (λ e full. let room = leb-false limit (length S.rows) e in omega arith)
+      finds_when (limit ≤ n) (nat_le limit n) (leb-true limit n)
+      (λ e full. let room = leb-false limit n e in omega arith)
 
-  pub take_in_order : KeepsOrder (take_order S limit r.terms) (take_answer S limit r)
-  take_in_order =
+  in_order : KeepsOrder (admit_order m n limit ts) (admit_answer m n limit ts)
+  in_order =
       refused_first 2 _ _ _
-      (refused_first 5 _ _ _ (accepted (length S.rows)) (when (nat_le limit (length S.rows))) finds_full)
-      (first_beyond S.width 0 r.terms) finds_beyond
+      (refused_first 5 _ _ _ (accepted n) (when (nat_le limit n)) finds_full)
+      (first_beyond m 0 ts) finds_beyond
 
-  -- an answer that is take's keeps the order
-  pub answer_in_order : (answer : Result ℕ RefusalCase) → answer ≡ take_answer S limit r → KeepsOrder (take_order S limit r.terms) answer
-  answer_in_order answer is = subst (KeepsOrder (take_order S limit r.terms)) (sym is) take_in_order
+  -- an answer that is such keeps the order
+  pub answer_in_order : (answer : Result ℕ RefusalCase) → answer ≡ admit_answer m n limit ts → KeepsOrder (admit_order m n limit ts) answer
+  answer_in_order answer is = subst (KeepsOrder (admit_order m n limit ts)) (sym is) in_order
