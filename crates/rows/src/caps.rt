@@ -4,9 +4,7 @@ ghost use Rattle.frame.specs.Refusals.{numbered};
 ghost use Rattle.frame.specs.Orders.{KeepsOrder};
 ghost use Rattle.frame.specs.Parts.{terms_of};
 ghost use Rattle.rows.specs.Ledgers.{row_of, take_answer, take_order, after_take};
-ghost use Rattle.rows.specs.Ledgers.{strike_answer, after_strike, cleared};
 ghost use Rattle.rows.specs.Sizes.{size_number};
-ghost use Rattle.rows.specs.Values.{OthersSatisfied};
 ghost use Rattle.rows.specs.Caps.{own_number, ledger_below, cap_system, cap_limit, cap_limits};
 ghost use Rattle.rows.specs.Caps.{two_caps_system, two_caps_limit, two_caps_limits};
 ghost use Rattle.rows.specs.Caps.{NestedCapsLaw};
@@ -93,39 +91,16 @@ impl<L: Ledger> Ledger for Cap<L> {
         self.own.number().min(self.below.limit())
     }
 
-    fn take(&mut self, frame: &Frame<'_>) -> Result<usize, Refusal>
-        ensures answer { let before = cap_system L.system self.old in
-            let limit = cap_limit L.most self.old in
-            numbered result ≡ take_answer before limit (row_of frame.now) }
-        ensures order { let before = cap_system L.system self.old in
-            let limit = cap_limit L.most self.old in
-            KeepsOrder (take_order before limit (terms_of frame.now)) (numbered result) }
-        ensures after { cap_system L.system self.new
-            ≡ after_take result (cap_system L.system self.old) (row_of frame.now) }
-        ensures kept { cap_limit L.most self.new ≡ cap_limit L.most self.old }
-        ensures limits { cap_limits L.limits self.new ≡ cap_limits L.limits self.old }
-    {
+    fn take(&mut self, frame: &Frame<'_>) -> Result<usize, Refusal> {
         admit(frame, self.width(), self.row_count(), self.own.number())?;
         self.below.take(frame)
     }
 
-    fn strike(&mut self, row: usize) -> Result<(), Refusal>
-        ensures answer { numbered result ≡ strike_answer (cap_system L.system self.old) row }
-        ensures after { cap_system L.system self.new
-            ≡ after_strike result (cap_system L.system self.old) row }
-        ensures others { OthersSatisfied (cap_system L.system self.old)
-            (cap_system L.system self.new) row }
-        ensures kept { cap_limit L.most self.new ≡ cap_limit L.most self.old }
-        ensures limits { cap_limits L.limits self.new ≡ cap_limits L.limits self.old }
-    {
+    fn strike(&mut self, row: usize) -> Result<(), Refusal> {
         self.below.strike(row)
     }
 
-    fn clear(&mut self)
-        ensures after { cap_system L.system self.new ≡ cleared (cap_system L.system self.old) }
-        ensures kept { cap_limit L.most self.new ≡ cap_limit L.most self.old }
-        ensures limits { cap_limits L.limits self.new ≡ cap_limits L.limits self.old }
-    {
+    fn clear(&mut self) {
         self.below.clear();
     }
 }
