@@ -1,5 +1,6 @@
 -- Answers in words. Assumes nothing.
-use Rattle.std.specs.Prelude.{◌≡◌, ℕ, ◌+◌, ◌<◌, ◌≤◌, ◌⊎◌, List, [], ◌∷◌, length, take, min, slice_index}
+use Rattle.std.specs.Prelude.{◌≡◌, ℕ, ◌+◌, ◌<◌, ◌≤◌, ◌⊎◌, List, [], ◌∷◌, length, take, min}
+use Rattle.std.specs.Prelude.{slice_index}
 use Rattle.field.specs.Operations.{Operations}
 use Rattle.rows.specs.Systems.{System}
 use Rattle.solver.specs.declared.findings.Findings.{Findings}
@@ -11,8 +12,11 @@ use Rattle.solver.specs.declared.scouts.Scan.{Scan}
 use Rattle.solver.specs.Outcomes.{extent_of, extent_case}
 use Rattle.solver.specs.Scouts.{scan_meaning}
 use Rattle.solver.specs.Laws.{Settles}
+use Rattle.solverspeed.specs.Hours.{IsHour, IsNoHour}
 use Rattle.solverspeed.specs.declared.Kind.{Kind}
-use Rattle.solverspeed.specs.declared.Kind.TheVariants.{Part, Whole, Contradiction as Contradicted, Failed as Failure, NoHour}
+use Rattle.solverspeed.specs.declared.Kind.TheVariants.{Part, Whole, NoHour}
+use Rattle.solverspeed.specs.declared.Kind.TheVariants.{Contradiction as Contradicted}
+use Rattle.solverspeed.specs.declared.Kind.TheVariants.{Failed as Failure}
 
 -- the number of a kind
 abbrev pub number : Kind → ℕ
@@ -32,8 +36,10 @@ head kind c = number kind ∷ word c.pivots ∷ word c.questions ∷ []
 -- an answer is written as far as there is room for it, and nothing behind it
 pub record Written (kind : Kind) (c : Count) (found before after : List ℕ) : Type 0 where
   pub long : length after ≡ length before
-  pub heads : (k : ℕ) → k < 3 → k < length before → slice_index after k ≡ slice_index (head kind c) k
-  pub finds : (k : ℕ) → k < length found → k + 3 < length before → slice_index after (k + 3) ≡ slice_index found k
+  pub heads : (k : ℕ) → k < 3 → k < length before
+      → slice_index after k ≡ slice_index (head kind c) k
+  pub finds : (k : ℕ) → k < length found → k + 3 < length before
+      → slice_index after (k + 3) ≡ slice_index found k
   pub kept : (k : ℕ) → length found + 3 ≤ k → slice_index after k ≡ slice_index before k
 
 abbrev pub nothing : Count
@@ -49,8 +55,10 @@ SolvedAs S c NoHour = ⊥
 
 -- an answer says how a run ended: solved and its minutes, or a contradiction and its blame
 abbrev pub Says : System → Outcome → Findings → (before after : List ℕ) → Type 0
-Says S (Solved c) f before after = (kind : Kind) × SolvedAs S c kind × Written kind c (take S.width f.minutes) before after
-Says S (Contradiction c) f before after = Written Contradicted c (take (length S.rows) f.blame) before after
+Says S (Solved c) f before after =
+    (kind : Kind) × SolvedAs S c kind × Written kind c (take S.width f.minutes) before after
+Says S (Contradiction c) f before after =
+    Written Contradicted c (take (length S.rows) f.blame) before after
 Says S (Failed e) f before after = Written Failure nothing [] before after
 
 -- an answer says how a settle of these rows by the scan ended
@@ -61,6 +69,8 @@ pub record Settled (K : Operations) (S : System) (before after : List ℕ) : Typ
   pub settles : (scan : Scan) → Settles K S (scan_meaning K) scan scan from to outcome
   pub says : Says S outcome to before after
 
--- an answer to the words of an hour: that they are none, or how a settle of some rows ended
-abbrev pub SettledHour : Operations → (before after : List ℕ) → Type 0
-SettledHour K before after = Written NoHour nothing [] before after ⊎ ((S : System) × Settled K S before after)
+-- an answer to words: that they say no hour, or how a settle of the hour that they say ended
+abbrev pub SettledHour : Operations → (words before after : List ℕ) → Type 0
+SettledHour K words before after =
+    (IsNoHour words × Written NoHour nothing [] before after)
+    ⊎ ((S : System) × IsHour words S × Settled K S before after)

@@ -1,11 +1,15 @@
 //! Settles with the scan in both fields, with C's calling convention: what a benchmark links.
 #![tactic(auto)]
 
-ghost use Rattle.std.specs.Prelude.{◌≡◌, ℕ, ◌<◌, min, length, slice_index, MatchOption, ⊤};
+ghost use Rattle.std.specs.Prelude.{◌≡◌, ℕ, ◌*◌, ◌<◌, ◌≤◌, min, length, take, slice_index};
+ghost use Rattle.std.specs.Prelude.{MatchOption, ⊤};
+ghost use Rattle.std.specs.Option.{option_map};
 ghost use Rattle.field.specs.Modulo.{modulo};
 ghost use Rattle.field.specs.Octets.{octets};
 ghost use Rattle.field.specs.Slices.{Filled};
+ghost use Rattle.frame.specs.declared.checks.TheConstants.{MOST_TERMS};
 ghost use Rattle.rows.specs.Tables.{system_of};
+ghost use Rattle.solverspeed.specs.Hours.{terms_words, RowTaken, HourRead};
 ghost use Rattle.solverspeed.specs.Answers.{word, Written, Says, Settled, SettledHour};
 
 use field::fields::Field;
@@ -23,7 +27,8 @@ use solver::outcomes::{Count, Extent, Outcome};
 use solver::runs::settle_by_scan;
 use solver::spaces::WORK_WORDS;
 
-// How many words of an answer go before what was found: the kind, the number of pivots, and that of questions.
+// How many words of an answer go before what was found: the kind, the number of pivots, and that
+// of questions.
 const HEAD_WORDS: usize = 3;
 
 // The kinds of answer, as the first word says them.
@@ -39,8 +44,12 @@ enum Kind {
     NoHour,
 }
 
-// Fills terms from words, a minute and a weight for each.
-fn read_terms(terms: &mut [Term], pairs: &[u16]) {
+// The terms that words say, a minute and a weight for each, with empty terms behind them.
+fn read_terms(pairs: &[u16]) -> [Term; MOST_TERMS]
+    ensures { (n : ℕ) → length pairs.now ≡ 2 * n → n ≤ MOST_TERMS
+        → terms_words (take n result) ≡ pairs.now }
+{
+    let mut terms = [Term::default(); MOST_TERMS];
     let count = terms.len().min(pairs.len() / 2);
     for k in 0..count {
         terms[k] = Term {
@@ -48,12 +57,15 @@ fn read_terms(terms: &mut [Term], pairs: &[u16]) {
             weight: pairs[2 * k + 1],
         };
     }
+    terms
 }
 
-// Takes the row that words begin with: the number of its terms, its sum, and the terms. Gives the words behind it; none
-// where they begin with no row, or the table refuses it.
+// Takes the row that words begin with: the number of its terms, its sum, and the terms. Gives the
+// words behind it; none where they begin with no row, or the table refuses it.
 fn take_row<'a>(table: &mut Table, words: &'a [u16]) -> Option<&'a [u16]>
-    ensures { MatchOption result ⊤ (λ rest. length rest.now < length words.now) }
+    ensures taken { RowTaken words.now (system_of table.old) (system_of table.new)
+        (option_map (λ rest. rest.now) result) }
+    ensures fewer { MatchOption result ⊤ (λ rest. length rest.now < length words.now) }
 {
     let (count, words) = words.split_first()?;
     let (sum, words) = words.split_first()?;
@@ -62,15 +74,16 @@ fn take_row<'a>(table: &mut Table, words: &'a [u16]) -> Option<&'a [u16]>
         return None;
     }
     let (pairs, rest) = words.split_at(2 * count);
-    let mut terms = [Term::default(); MOST_TERMS];
-    read_terms(&mut terms[..count], pairs);
+    let terms = read_terms(pairs);
     let frame = Frame::check(*sum, &terms[..count]).ok()?;
     table.take(&frame).ok()?;
     Some(rest)
 }
 
 // The table of an hour: the width, and then the rows.
-fn read_hour(hour: &[u16]) -> Option<Table> {
+fn read_hour(hour: &[u16]) -> Option<Table>
+    ensures { HourRead hour.now (option_map system_of result) }
+{
     let (width, mut rest) = hour.split_first()?;
     let width = Width::try_from(usize::from(*width)).ok()?;
     let mut table = Table::new(width);
@@ -139,7 +152,7 @@ fn write_outcome(answer: &mut [u16], table: &Table, outcome: Outcome, findings: 
 
 // Settles a table and writes how that ended.
 fn settle_table<F: Field>(answer: &mut [u16], table: &Table)
-    ensures { Settled F.Field.ops (system_of table.now) answer.old answer.new }
+    ensures { Settled F.ops (system_of table.now) answer.old answer.new }
 {
     let mut findings = Findings::new();
     let mut work = [0; WORK_WORDS];
@@ -152,7 +165,7 @@ fn settle_table<F: Field>(answer: &mut [u16], table: &Table)
 
 // Writes how the settle of an hour ends.
 fn settle_hour<F: Field>(hour: &[u16], answer: &mut [u16])
-    ensures { SettledHour F.Field.ops answer.old answer.new }
+    ensures { SettledHour F.ops hour.now answer.old answer.new }
 {
     match read_hour(hour) {
         Some(table) => settle_table::<F>(answer, &table),
@@ -162,14 +175,14 @@ fn settle_hour<F: Field>(hour: &[u16], answer: &mut [u16])
 
 #[unsafe(no_mangle)]
 pub extern "C" fn prime_settle(hour: &[u16], answer: &mut [u16])
-    ensures { SettledHour (modulo 65521) answer.old answer.new }
+    ensures { SettledHour (modulo 65521) hour.now answer.old answer.new }
 {
     settle_hour::<Prime>(hour, answer);
 }
 
 #[unsafe(no_mangle)]
 pub extern "C" fn octets_settle(hour: &[u16], answer: &mut [u16])
-    ensures { SettledHour octets answer.old answer.new }
+    ensures { SettledHour octets hour.now answer.old answer.new }
 {
     settle_hour::<Octets>(hour, answer);
 }

@@ -1,0 +1,3 @@
+mod Hours
+mod Reading
+mod Words
