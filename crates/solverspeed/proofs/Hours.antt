@@ -13,13 +13,13 @@ use Rattle.rows.specs.Ledgers.{first_beyond, take_answer}
 use Rattle.solverspeed.specs.Hours.{rows_words, IsHour, IsNoHour, BeginsWith, BeginsWithNone, ReadSoFar}
 use Rattle.solverspeed.proofs.Words.{rows_words-append, more_rows}
 
-none_beyond : (m at : ℕ) (ts : List Term) → ((k : ℕ) → k < length ts → minute_at ts k < m) → first_beyond m at ts ≡ None
-none_beyond m at [] below = refl
-none_beyond m at (t ∷ ts) below = rw (lt-leb m t.minute (below 0 (omega arith))) (none_beyond m (at + 1) ts (λ k h. below (suc k) (omega (arith, h))))
+all_below : (m at : ℕ) (ts : List Term) → ((k : ℕ) → k < length ts → minute_at ts k < m) → first_beyond m at ts ≡ None
+all_below m at [] below = refl
+all_below m at (t ∷ ts) below = rw (lt-leb m t.minute (below 0 (omega arith))) (all_below m (at + 1) ts (λ k h. below (suc k) (omega (arith, h))))
 
 -- a row whose minutes are below the width is taken where there is room
 row_taken : (S : System) (r : Row) → ((k : ℕ) → k < length r.terms → minute_at r.terms k < S.width) → length S.rows < MOST_ROWS → IsOk (take_answer S MOST_ROWS r)
-row_taken S r below room = rw (none_beyond S.width 0 r.terms below, lt-leb MOST_ROWS (length S.rows) room) refl
+row_taken S r below room = rw (all_below S.width 0 r.terms below, lt-leb MOST_ROWS (length S.rows) room) refl
 
 -- one row more is read
 pub one_row : (words ws rest : List ℕ) (S T : System) (r : Row) → BeginsWith r ws rest S T → ReadSoFar words S ws → ReadSoFar words T rest
