@@ -3,7 +3,6 @@ use Rattle.std.specs.Prelude.{◌≡◌, ℕ, ◌+◌, ◌%◌, ◌<◌, ◌≤�
 use Rattle.std.specs.Prelude.{Option, Result, ◌↔◌, nat_le, replicate, slice_index_or, slice_set}
 use Rattle.std.specs.List.{filter}
 use Rattle.std.specs.Option.{IsSome, unwrap_or, is_some, is_none}
-use Rattle.std.proofs.Props.{props}
 use Rattle.field.specs.Operations.{Operations}
 use Rattle.frame.specs.declared.terms.Term.{Term}
 use Rattle.frame.specs.Refusals.{RefusalCase}
@@ -72,10 +71,6 @@ pub record NotesFit (K : Operations) (m : ℕ) (codes : List (Option ℕ)) : Typ
   pub long : length codes ≡ MOST_MINUTES
   pub minute : (c code : ℕ) → noted_code codes c ≡ Some code → c < m
   pub code : (c code : ℕ) → noted_code codes c ≡ Some code → code < K.q
-
--- there is one proof of it at most
-pub NotesFit-prop : {K : Operations} {m : ℕ} {codes : List (Option ℕ)} → IsProp (NotesFit K m codes)
-NotesFit-prop = Prim.hlevel props
 
 -- a choice of minutes satisfies the rows under the notes just where, with the noted codes put in,
 -- it satisfies the rows

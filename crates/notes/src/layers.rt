@@ -1,5 +1,6 @@
 //! Rows under noted minutes.
-ghost use Rattle.notes.specs.Notes.{NotesFit, NotesFit-prop};
+ghost use Rattle.notes.specs.Notes.{NotesFit};
+ghost use Rattle.notes.specs.Lemmas.Fits.{NotesFit-prop};
 
 use crate::notes::Notes;
 use field::fields::{Field, is_code};

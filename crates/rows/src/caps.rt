@@ -85,7 +85,8 @@ impl<L: Ledger> Ledger for Cap<L> {
     ghost limited = { λ cap.
         smaller_limit cap.own.number (L.most cap.below) cap.own.some (L.limited cap.below) };
 
-    ghost smallest = { λ cap. ap (min cap.own.number) (L.smallest cap.below) };
+    ghost limit_is_smallest = { λ cap.
+        ap (min cap.own.number) (L.limit_is_smallest cap.below) };
 
     fn limit(&self) -> usize {
         self.own.number().min(self.below.limit())

@@ -13,9 +13,9 @@ use crate::reading::Rows;
 use frame::frames::Frame;
 use frame::refusals::Refusal;
 
-/// A ledger: rows that come from frames, one for each. Its limit is the smallest of its limits: the
-/// own numbers of the caps, the outermost first, and last the limit of the ledger below them all.
-/// No call changes the width, the limit, or any of these limits.
+/// A ledger: rows that come from frames, one for each. It has a list of limits, the own numbers of
+/// the caps, the outermost first, and last that of the ledger below them all; its limit is the
+/// smallest of them. No call changes the width, the list, or the limit.
 pub trait Ledger: Rows {
     ghost most: { Self → ℕ };
 
@@ -57,7 +57,7 @@ pub trait Ledger: Rows {
 
     ghost limited: { (ledger : Self) → LimitInRange (most ledger) };
 
-    ghost smallest: { (ledger : Self) → most ledger ≡ smallest_of (limits ledger) };
+    ghost limit_is_smallest: { (ledger : Self) → most ledger ≡ smallest_of (limits ledger) };
 }
 
 /// The number of the first term whose minute is not below the width, counted from 0; none where all

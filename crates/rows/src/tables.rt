@@ -105,7 +105,7 @@ impl Ledger for Table {
 
     ghost limited = { table_limited };
 
-    ghost smallest = { λ _. refl };
+    ghost limit_is_smallest = { λ _. refl };
 
     fn limit(&self) -> usize {
         MOST_ROWS

@@ -6,7 +6,7 @@ use Rattle.field.specs.Operations.{Operations}
 use Rattle.field.specs.Sums.{Σ}
 use Rattle.frame.specs.Refusals.{RefusalCase}
 use Rattle.frame.specs.Orders.{refuse, when}
-use Rattle.rows.specs.Systems.{System}
+use Rattle.rows.specs.Systems.{System, sum_at}
 use Rattle.rows.specs.Values.{choice, entry, column_value, SatisfiesAll}
 use Rattle.rows.specs.Columns.{DifferentColumns, Determine}
 use Rattle.algebra.specs.Profiles.{IndependentRows, rank}
@@ -14,7 +14,6 @@ use Rattle.solver.specs.declared.faults.Fault.{Fault}
 use Rattle.solver.specs.declared.findings.Findings.{Findings}
 use Rattle.solver.specs.declared.outcomes.Outcome.{Outcome}
 use Rattle.solver.specs.declared.spaces.TheConstants.{WORK_WORDS}
-use Rattle.rows.specs.Systems.{sum_at}
 use Rattle.solver.specs.Questions.{Asked, side, HandsCodes, HasFault, FalseAnswer}
 use Rattle.solver.specs.Outcomes.{Case, fault_case, side_case, solved_case, contradiction_case}
 use Rattle.solver.specs.Outcomes.{failed_case, outcome_case, IsSolved, IsContradiction, IsFailed}

@@ -6,3 +6,4 @@ pub mod Runs
 pub mod Laws
 pub mod Profiling
 pub mod Steps
+pub mod Lemmas

@@ -1,5 +1,6 @@
 -- The cases of faults, sides, outcomes and extents: each has a number, and values. Assumes nothing.
 use Rattle.std.specs.Prelude.{◌≡◌, ℕ, ◌+◌, cond, List, [], ◌∷◌, Option, Result, ◌==◌}
+use Rattle.std.specs.Prelude.{slice_index}
 use Rattle.std.specs.Result.{result_map_both}
 use Rattle.solver.specs.declared.faults.Fault.{Fault}
 use Rattle.solver.specs.declared.faults.Fault.TheVariants.{Missed, Zero, NoPlace}
@@ -23,9 +24,7 @@ fault_case (Zero i) = record { number = 2; values = i ∷ [] }
 fault_case (NoPlace i) = record { number = 3; values = i ∷ [] }
 
 abbrev pub fault_place : Fault → ℕ
-fault_place (Missed i) = i
-fault_place (Zero i) = i
-fault_place (NoPlace i) = i
+fault_place f = slice_index (fault_case f).values 0
 
 -- an answer that is verified or has a fault, with the fault as a case
 abbrev pub faulted : Result (Option ℕ) Fault → Result (Option ℕ) Case

@@ -4,14 +4,13 @@ use Rattle.std.specs.Prelude.{Err, Option, Result}
 use Rattle.std.specs.List.{range_with_len}
 use Rattle.field.specs.Operations.{Operations}
 use Rattle.field.specs.Slices.{Filled}
-use Rattle.rows.specs.Systems.{System}
+use Rattle.rows.specs.Systems.{System, sum_at}
 use Rattle.rows.specs.Values.{choice, entry}
 use Rattle.algebra.specs.Pivots.{Pivots, no_pivots, solution, multipliers, grow}
 use Rattle.algebra.specs.Profiles.{pivot_rows}
 use Rattle.solver.specs.declared.findings.Findings.{Findings}
 use Rattle.solver.specs.Outcomes.{Case, solved_case, contradiction_case, failed_case, IsSolved}
 use Rattle.solver.specs.Outcomes.{IsContradiction, IsFailed}
-use Rattle.rows.specs.Systems.{sum_at}
 use Rattle.solver.specs.Questions.{Asked, about_rows, about_columns, question_codes, side, verified}
 use Rattle.solver.specs.Scouts.{ScoutMeaning}
 

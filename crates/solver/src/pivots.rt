@@ -1,5 +1,6 @@
 //! Pivots in words that the caller lends.
-ghost use Rattle.solver.specs.Steps.Pivots.{PivotsFit, PivotsFit-prop};
+ghost use Rattle.solver.specs.Steps.Pivots.{PivotsFit};
+ghost use Rattle.solver.specs.Lemmas.Fits.{PivotsFit-prop};
 
 use crate::spaces::WORK_WORDS;
 use crate::vectors::{

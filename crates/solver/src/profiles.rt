@@ -4,9 +4,8 @@ ghost use Rattle.frame.specs.Refusals.{refusal_only};
 ghost use Rattle.rows.specs.Values.{entry};
 ghost use Rattle.algebra.specs.Places.{Outside};
 ghost use Rattle.algebra.specs.Profiles.{with_row};
-ghost use Rattle.solver.specs.Steps.Pivots.{PivotsOfRows};
+ghost use Rattle.solver.specs.Steps.Pivots.{PivotsOfRows, SamePivots};
 ghost use Rattle.solver.specs.Profiling.{profile_answer, Profiles};
-ghost use Rattle.solver.specs.Steps.Pivots.{SamePivots};
 ghost use Rattle.solver.specs.Steps.Spaces.{pivots_of};
 
 use crate::pivots::PivotSpace;

@@ -10,7 +10,8 @@ use Rattle.frame.specs.Frames.{minute_at, FrameTerms}
 use Rattle.rows.specs.declared.sizes.TheConstants.{MOST_ROWS}
 use Rattle.rows.specs.Systems.{Row, System, empty_row, row_at, WellFormed, WellFormedRow}
 use Rattle.rows.specs.Ledgers.{first_beyond, take_answer}
-use Rattle.solverspeed.specs.Hours.{rows_words, IsHour, IsNoHour, BeginsWith, BeginsWithNone, ReadSoFar}
+use Rattle.solverspeed.specs.Hours.{rows_words, IsHour, IsNoHour}
+use Rattle.solverspeed.specs.Steps.{BeginsWith, NoRowTaken, ReadSoFar}
 use Rattle.solverspeed.proofs.Words.{rows_words-append, more_rows}
 
 all_below : (m at : ℕ) (ts : List Term) → ((k : ℕ) → k < length ts → minute_at ts k < m) → first_beyond m at ts ≡ None
@@ -34,7 +35,7 @@ one_row words ws rest S T r begins so_far =
     })
 
 -- no row is read, though there are words
-pub no_row : (words rest : List ℕ) (S : System) → 0 < length rest → ReadSoFar words S rest → BeginsWithNone rest S → IsNoHour words
+pub no_row : (words rest : List ℕ) (S : System) → 0 < length rest → ReadSoFar words S rest → NoRowTaken rest S → IsNoHour words
 no_row words rest S some so_far none T hour =
     let start : S.width ∷ rows_words S.rows rest ≡ T.width ∷ rows_words T.rows [] = sym so_far.said ∙ hour.said in
     let wide : S.width ≡ T.width = cc in

@@ -14,7 +14,8 @@ use Rattle.frame.specs.Parts.{sum_of, FrameOf}
 use Rattle.rows.specs.declared.sizes.TheConstants.{MOST_ROWS}
 use Rattle.rows.specs.Systems.{Row, System}
 use Rattle.rows.specs.Ledgers.{row_of, take_answer}
-use Rattle.solverspeed.specs.Hours.{terms_words, row_words, BeginsWithNone}
+use Rattle.solverspeed.specs.Hours.{terms_words, row_words}
+use Rattle.solverspeed.specs.Steps.{NoRowTaken}
 use Rattle.solverspeed.proofs.Words.{pair_at, terms_words-read, terms_words-length, row_words-same}
 
 -- the first n terms are read
@@ -87,7 +88,7 @@ module _ {words ws : List ℕ} {count sum : ℕ} {ts : List Term} (b : Begun wor
   only : (r : Row) (rest : List ℕ) → words ≡ row_words r rest → r ≡ row
   only r rest e = (row_words-same r row rest (drop (2 * count) ws) (sym e ∙ begins)).0
 
-  pub no_frame : (S : System) (answer : Result Frame Refusal) → result_ok answer ≡ None → Decides ts (refusal_only answer) → BeginsWithNone words S
+  pub no_frame : (S : System) (answer : Result Frame Refusal) → result_ok answer ≡ None → Decides ts (refusal_only answer) → NoRowTaken words S
   no_frame S answer none decides r rest e frame =
       let ok = decides.complete (subst (λ (s : Row). FrameTerms s.terms) (only r rest e) frame) in
       λ taken. no_value answer (λ _. tt) none (ap is_ok ok)
@@ -96,5 +97,5 @@ module _ {words ws : List ℕ} {count sum : ℕ} {ts : List Term} (b : Begun wor
     same : row ≡ row_of f
     same = ap (λ n. record { sum = n; terms = ts }) (sym of.sums) ∙ ap (λ us. record { sum = sum_of f; terms = us }) (sym of.holds)
 
-    pub no_room : result_ok answer ≡ None → BeginsWithNone words S
+    pub no_room : result_ok answer ≡ None → NoRowTaken words S
     no_room none r rest e frame ok = no_value answer (λ n. n) none (subst IsOk (sym answers) (subst (λ s. IsOk (take_answer S MOST_ROWS s)) (only r rest e ∙ same) ok))

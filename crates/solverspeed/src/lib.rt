@@ -1,15 +1,15 @@
 //! Settles with the scan in both fields, with C's calling convention: what a benchmark links.
 #![tactic(auto)]
 
-ghost use Rattle.std.specs.Prelude.{◌≡◌, ℕ, ◌*◌, ◌<◌, ◌≤◌, min, length, take, slice_index};
-ghost use Rattle.std.specs.Prelude.{MatchOption, ⊤};
+ghost use Rattle.std.specs.Prelude.{◌≡◌, ℕ, ◌*◌, ◌<◌, ◌≤◌, min, length, take, slice_index, IfSome};
 ghost use Rattle.std.specs.Option.{option_map};
 ghost use Rattle.field.specs.Modulo.{modulo};
 ghost use Rattle.field.specs.Octets.{octets};
 ghost use Rattle.field.specs.Slices.{Filled};
 ghost use Rattle.frame.specs.declared.checks.TheConstants.{MOST_TERMS};
 ghost use Rattle.rows.specs.Tables.{system_of};
-ghost use Rattle.solverspeed.specs.Hours.{terms_words, RowTaken, HourRead};
+ghost use Rattle.solverspeed.specs.Hours.{terms_words};
+ghost use Rattle.solverspeed.specs.Steps.{RowTaken, HourRead};
 ghost use Rattle.solverspeed.specs.Answers.{word, Written, Says, Settled, SettledHour};
 
 use field::fields::Field;
@@ -65,7 +65,7 @@ fn read_terms(pairs: &[u16]) -> [Term; MOST_TERMS]
 fn take_row<'a>(table: &mut Table, words: &'a [u16]) -> Option<&'a [u16]>
     ensures taken { RowTaken words.now (system_of table.old) (system_of table.new)
         (option_map (λ rest. rest.now) result) }
-    ensures fewer { MatchOption result ⊤ (λ rest. length rest.now < length words.now) }
+    ensures fewer { IfSome result (λ rest. length rest.now < length words.now) }
 {
     let (count, words) = words.split_first()?;
     let (sum, words) = words.split_first()?;
@@ -173,6 +173,11 @@ fn settle_hour<F: Field>(hour: &[u16], answer: &mut [u16])
     }
 }
 
+/// Settles an hour in words by the scan, modulo 65521, and writes how that ended. An hour is the
+/// number of its minutes, and for each frame the number of its terms, its sum, and a minute and a
+/// weight for each term. An answer is its kind (0 solved in part, 1 whole, 2 a contradiction, 4 no
+/// hour; 3 would be a failed run), the numbers of pivots and of questions, and then the minutes or
+/// the blame, as far as there is room.
 #[unsafe(no_mangle)]
 pub extern "C" fn prime_settle(hour: &[u16], answer: &mut [u16])
     ensures { SettledHour (modulo 65521) hour.now answer.old answer.new }
@@ -180,6 +185,7 @@ pub extern "C" fn prime_settle(hour: &[u16], answer: &mut [u16])
     settle_hour::<Prime>(hour, answer);
 }
 
+/// The same in the octets.
 #[unsafe(no_mangle)]
 pub extern "C" fn octets_settle(hour: &[u16], answer: &mut [u16])
     ensures { SettledHour octets hour.now answer.old answer.new }

@@ -1,7 +1,5 @@
 -- Pivots in lists of words, and what the steps of growing do to them. Assumes nothing.
 use Rattle.std.specs.Prelude.{◌≡◌, ◌≢◌, ℕ, ◌+◌, ◌*◌, ◌<◌, ◌≤◌, List, length, slice_index}
-use Rattle.std.proofs.Props.{props}
-use Prim.{IsProp}
 use Rattle.field.specs.Operations.{Operations}
 use Rattle.rows.specs.declared.sizes.TheConstants.{MOST_MINUTES, MOST_ROWS}
 use Rattle.rows.specs.Systems.{System}
@@ -34,11 +32,6 @@ pub record PivotsFit (s : ℕ) (rows columns inverse : List ℕ) : Type 0 where
   pub inverse_places : length inverse ≡ MOST_MINUTES * MOST_MINUTES
   pub rows_below : (k : ℕ) → k < s → slice_index rows k < MOST_ROWS
   pub columns_below : (k : ℕ) → k < s → slice_index columns k < MOST_MINUTES
-
--- there is one proof of it at most
-pub PivotsFit-prop : (s : ℕ) (rows columns inverse : List ℕ) →
-    IsProp (PivotsFit s rows columns inverse)
-PivotsFit-prop s rows columns inverse = Prim.hlevel props
 
 -- two pivots are the same as far as they count
 pub record SamePivots (S T : Pivots) : Type 0 where

@@ -1,7 +1,7 @@
 -- What is read so far is the table's; each turn takes words away. Assumes nothing.
 use Rattle.std.specs.Prelude.{length}
 use Rattle.rows.specs.Tables.{system_of}
-use Rattle.solverspeed.specs.Hours.{ReadSoFar}
+use Rattle.solverspeed.specs.Steps.{ReadSoFar}
 use Rattle.solverspeed.proofs.read_hour.Given as goal
 
 abbrev pub decreases-loop-rest : goal.decreases-loop-rest

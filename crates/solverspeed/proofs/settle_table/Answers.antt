@@ -8,6 +8,7 @@ returns-in-Ok g c =
       to = c.settle_by_scan.new.findings;
       outcome = c.in-Ok.outcome;
       settles = c.in-Ok.ensures.settles;
+      never_failed = c.in-Ok.ensures.never_fails;
       says = c.write_outcome.ensures;
     }
 
