@@ -1,12 +1,10 @@
 -- Which lines a session accepts. Assumes nothing.
-use Rattle.std.proofs.Common.{◌≡◌, ℕ, Bool, true, false, ◌||◌, ltb, leb, List, length, Some, None, Ok, Err, Option, Result, sym, refl, ap, ◌∙◌, true≢false, arith}
-use Rattle.std.proofs.lemmas.Bool.{ltb-false, le-ltb, lt-leb, cond-true}
+use Rattle.std.proofs.Common.{◌≡◌, ℕ, Bool, true, false, ◌||◌, ltb, List, length, Some, None, Ok, Err, Option, Result, sym, refl, ap, ◌∙◌, true≢false, arith}
+use Rattle.std.proofs.lemmas.Bool.{ltb-false, le-ltb, cond-true}
 use Rattle.frame.specs.declared.terms.Term.{Term}
 use Rattle.frame.specs.Refusals.{RefusalCase}
 use Rattle.frame.specs.Orders.{refuse, when}
-use Rattle.frame.specs.Frames.{no_term, minute_at}
 use Rattle.frame.proofs.Apart.{err_ok}
-use Rattle.frame.proofs.Positions.{none_found}
 use Rattle.lines.specs.declared.kinds.LineKind.{LineKind}
 use Rattle.lines.specs.declared.openings.Opening.{Opening}
 use Rattle.lines.specs.Entries.{Said, opens, carries, read_entry}
@@ -16,7 +14,7 @@ use Rattle.lines.proofs.Exact.{opened}
 use Rattle.lines.proofs.Opened.{kind_said, kind_read, reads_entry}
 use Rattle.rows.specs.Systems.{System, Row}
 use Rattle.rows.specs.Ledgers.{take_answer, after_take}
-use Rattle.rows.proofs.Beyond.{taken_below, taken_room}
+use Rattle.rows.proofs.Beyond.{taken_below, taken_room, is_taken}
 use Rattle.profilelog.specs.Hours as hours
 use Rattle.profilelog.specs.Hours.{OpenHour}
 use Rattle.profilelog.specs.Sessions.{in_turn, heard_as, heard, opened_or, row, entry_answer, after_entry, line_answer, after_heard, after_line}
@@ -74,8 +72,7 @@ only_opened line n h =
 -- a frame's line
 module _ (h : OpenHour) (line : List ℕ) (s : ℕ) (ts : List Term) (fills : FillsHour h line s ts) where
   takes : take_answer h.system 96 (row (content s ts)) ≡ Ok (length h.system.rows)
-  takes =
-      rw (none_found (λ t. leb h.system.width t.minute) no_term 0 ts (λ k l. lt-leb h.system.width (minute_at ts k) (fills.below k l)), lt-leb 96 (length h.system.rows) fills.room) refl
+  takes = is_taken h.system 96 (row (content s ts)) fills.below fills.room
 
   heard_frame : heard (Some h) line ≡ Ok (carries (content s ts))
   heard_frame = hears (Some h) line (carries (content s ts)) ((reads_entry line (read_entry line) refl).each_frame s ts fills.frame fills.is) refl

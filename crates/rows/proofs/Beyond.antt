@@ -1,14 +1,14 @@
 -- What take's answer tells of a row, and in which order a frame is refused. Assumes nothing.
 use Rattle.std.specs.Prelude.{◌≡◌, ℕ, ◌<◌, ◌≤◌, Bool, true, false, List, length, Some, None, Ok, Option, Result, nat_le, refl}
 use Rattle.std.proofs.Common.{sym, subst, arith}
-use Rattle.std.proofs.lemmas.Bool.{leb-true, leb-false, le-leb}
+use Rattle.std.proofs.lemmas.Bool.{leb-true, leb-false, le-leb, lt-leb}
 use Rattle.frame.specs.declared.terms.Term.{Term}
 use Rattle.frame.specs.Frames.{no_term, minute_at}
 use Rattle.frame.specs.Refusals.{RefusalCase}
 use Rattle.frame.specs.Orders.{AtStart, KeepsOrder, refuse, when}
 use Rattle.frame.proofs.Apart.{err_ok}
 use Rattle.frame.proofs.Orders.{Finds, Passes, accepted, refused_first, finds_when, finds_position, finds_same}
-use Rattle.frame.proofs.Positions.{none_passes}
+use Rattle.frame.proofs.Positions.{none_passes, none_found}
 use Rattle.rows.specs.Systems.{Row, System}
 use Rattle.rows.specs.Ledgers.{first_beyond, admit_answer, take_answer, BeyondWidth, admit_order}
 
@@ -34,6 +34,11 @@ module _ (S : System) (limit : ℕ) (r : Row) (row : ℕ) (taken : Ok row ≡ ta
 
   pub taken_number : row ≡ length S.rows
   taken_number = parts.2
+
+-- a row whose minutes are below the width is taken where there is room
+pub is_taken : (S : System) (limit : ℕ) (r : Row) → ((k : ℕ) → k < length r.terms → minute_at r.terms k < S.width) → length S.rows < limit → take_answer S limit r ≡ Ok (length S.rows)
+is_taken S limit r below room =
+    rw (none_found (λ t. nat_le S.width t.minute) no_term 0 r.terms (λ k l. lt-leb S.width (minute_at r.terms k) (below k l)), lt-leb limit (length S.rows) room) refl
 
 -- a frame is refused in order
 module _ (m n limit : ℕ) (ts : List Term) where

@@ -8,13 +8,13 @@ use Rattle.frame.specs.declared.terms.Term.{Term}
 use Rattle.frame.specs.declared.frames.Frame.{Frame}
 use Rattle.frame.specs.declared.refusals.Refusal.{Refusal}
 use Rattle.frame.specs.declared.checks.TheConstants.{MOST_TERMS}
-use Rattle.frame.specs.Frames.{no_term, FrameTerms, Decides}
+use Rattle.frame.specs.Frames.{no_term, Decides}
 use Rattle.frame.specs.Refusals.{numbered_as, numbered, refusal_only}
 use Rattle.frame.specs.Parts.{sum_of, FrameOf}
 use Rattle.rows.specs.declared.sizes.TheConstants.{MOST_ROWS}
 use Rattle.rows.specs.Systems.{Row, System}
 use Rattle.rows.specs.Ledgers.{row_of, take_answer}
-use Rattle.solverspeed.specs.Hours.{terms_words, row_words}
+use Rattle.solverspeed.specs.Hours.{terms_words, row_words, FromFrame}
 use Rattle.solverspeed.specs.Steps.{NoRowTaken}
 use Rattle.solverspeed.proofs.Words.{pair_at, terms_words-read, terms_words-length, row_words-same}
 
@@ -42,7 +42,7 @@ all_read count n ws ts counted read e few =
 
 -- what words begin with
 module _ (words ws : List ℕ) (count sum : ℕ) (is : words ≡ count ∷ sum ∷ ws) where
-  pub too_many : MOST_TERMS < count → (r : Row) (rest : List ℕ) → words ≡ row_words r rest → ¬ FrameTerms r.terms
+  pub too_many : MOST_TERMS < count → (r : Row) (rest : List ℕ) → words ≡ row_words r rest → ¬ FromFrame r
   too_many many r rest e frame = let same : count ≡ length r.terms = cc in omega (arith, many, same, frame.few)
 
   pub too_short : length ws < 2 * count → (r : Row) (rest : List ℕ) → ¬ (words ≡ row_words r rest)
@@ -90,7 +90,7 @@ module _ {words ws : List ℕ} {count sum : ℕ} {ts : List Term} (b : Begun wor
 
   pub no_frame : (S : System) (answer : Result Frame Refusal) → result_ok answer ≡ None → Decides ts (refusal_only answer) → NoRowTaken words S
   no_frame S answer none decides r rest e frame =
-      let ok = decides.complete (subst (λ (s : Row). FrameTerms s.terms) (only r rest e) frame) in
+      let ok = decides.complete (subst FromFrame (only r rest e) frame) in
       λ taken. no_value answer (λ _. tt) none (ap is_ok ok)
 
   module _ (S : System) (f : Frame) (of : FrameOf sum ts f) (answer : Result ℕ Refusal) (answers : numbered answer ≡ take_answer S MOST_ROWS (row_of f)) where

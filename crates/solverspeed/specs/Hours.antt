@@ -1,8 +1,9 @@
 -- Hours in words. Assumes nothing.
-use Rattle.std.specs.Prelude.{◌≡◌, ℕ, ◌<◌, List, [], ◌∷◌, ◌++◌, length, slice_index_or}
+use Rattle.std.specs.Prelude.{◌≡◌, ℕ, List, [], ◌∷◌, ◌++◌, length}
+use Rattle.std.specs.List.{All}
 use Rattle.frame.specs.declared.terms.Term.{Term}
 use Rattle.frame.specs.Frames.{FrameTerms}
-use Rattle.rows.specs.Systems.{Row, System, empty_row, WellFormed}
+use Rattle.rows.specs.Systems.{Row, System, WellFormed}
 
 -- terms in words: a minute and a weight for each
 abbrev pub terms_words : List Term → List ℕ
@@ -22,15 +23,15 @@ rows_words (r ∷ rs) rest = row_words r (rows_words rs rest)
 abbrev pub hour_words : System → List ℕ
 hour_words S = S.width ∷ rows_words S.rows []
 
--- each row's terms are a frame's
-abbrev pub FromFrames : List Row → Type 0
-FromFrames rs = (i : ℕ) → i < length rs → FrameTerms (slice_index_or rs i empty_row).terms
+-- a row comes from a frame: its terms are a frame's
+abbrev pub FromFrame : Row → Type 0
+FromFrame r = FrameTerms r.terms
 
 -- words say an hour: they are its words, and each of its rows comes from a frame
 pub record IsHour (words : List ℕ) (S : System) : Type 0 where
   pub said : words ≡ hour_words S
   pub formed : WellFormed S
-  pub frames : FromFrames S.rows
+  pub frames : All FromFrame S.rows
 
 -- words say no hour
 abbrev pub IsNoHour : List ℕ → Type 0
