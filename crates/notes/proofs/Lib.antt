@@ -1,6 +1,6 @@
 mod Completion
 mod Counts
-mod NoNotes
+pub mod NoNotes
 mod Readings
-mod Satisfied
+pub mod Satisfied
 mod Strikes

@@ -42,7 +42,7 @@ is_taken S limit r below room =
 
 -- a frame is refused in order
 module _ (m n limit : ℕ) (ts : List Term) where
-  finds_beyond : Finds (BeyondWidth m ts) (first_beyond m 0 ts)
+  pub finds_beyond : Finds (BeyondWidth m ts) (first_beyond m 0 ts)
   finds_beyond =
       finds_same (Passes (λ (t : Term). nat_le m t.minute) no_term ts) (BeyondWidth m ts)
       (λ k p. (p.0, leb-true m (minute_at ts k) p.1))
@@ -50,7 +50,7 @@ module _ (m n limit : ℕ) (ts : List Term) where
       (first_beyond m 0 ts)
       (finds_position (λ (t : Term). nat_le m t.minute) no_term ts)
 
-  finds_full : Finds (AtStart (limit ≤ n)) (when (nat_le limit n))
+  pub finds_full : Finds (AtStart (limit ≤ n)) (when (nat_le limit n))
   finds_full =
       finds_when (limit ≤ n) (nat_le limit n) (leb-true limit n)
       (λ e full. let room = leb-false limit n e in omega arith)

@@ -1,0 +1,6 @@
+mod Held
+mod Changes
+mod Settling
+mod Keeping
+mod Ordered
+mod Numbers

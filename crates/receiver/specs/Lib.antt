@@ -1,0 +1,10 @@
+pub mod Stages
+pub mod Settlements
+pub mod Slips
+pub mod Contents
+pub mod Answers
+pub mod Stands
+pub mod Blocks
+pub mod Uses
+pub mod Laws
+pub mod Lemmas
