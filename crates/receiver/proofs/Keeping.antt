@@ -21,7 +21,7 @@ use Rattle.solver.specs.Runs.{Ran}
 use Rattle.solver.specs.Scouts.{ScoutMeaning}
 use Rattle.solver.specs.declared.findings.Findings.{Findings}
 use Rattle.solver.specs.declared.outcomes.Outcome.{Outcome}
-use Rattle.solver.specs.Laws.{SomeFalse, Settles, RunLaws}
+use Rattle.solver.specs.Laws.{Gave, SomeFalse, Settles, RunLaws}
 use Rattle.receiver.specs.declared.settlements.Settlement.{Settlement}
 use Rattle.receiver.specs.Settlements.{settlement_case, settlement_of, IsWhole}
 use Rattle.receiver.specs.declared.slips.Slip.{Slip}
@@ -264,3 +264,9 @@ module _ {X : Type 0} (F : Lawful) (b : Contents) (fit : NotesFit F.ops b.system
         defined = s.defined ∙ ap Some (sym same_run);
         laws = (choice f'.minutes, choice f'.blame, subst (λ r. RunLaws F.ops (rows_shown F.ops b) M from r (choice f'.minutes) (choice f'.blame)) (sym same_run) s.laws);
       }
+
+  -- what was asked and answered is the scout's
+  pub run_gave : Gave (rows_shown F.ops b) M from (run_of F.ops b M from).exchanges to
+  run_gave =
+      subst (λ to. Gave (rows_shown F.ops b) M from (run_of F.ops b M from).exchanges to) (sym s.scout)
+      (subst (λ (r : Ran X). Gave (rows_shown F.ops b) M from r.exchanges s.ran.scout) (sym same_run) s.laws.answers.gave)

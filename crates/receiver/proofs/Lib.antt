@@ -4,3 +4,4 @@ mod Settling
 mod Keeping
 mod Ordered
 mod Numbers
+mod Apart

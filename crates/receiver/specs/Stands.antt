@@ -1,10 +1,14 @@
 -- What a block's stage means of its notes and rows. Assumes nothing.
 use Rattle.std.specs.Prelude.{◌≡◌, ℕ, ◌<◌, ◌≤◌, ⊤, List, length, Some, Option}
 use Rattle.std.specs.Option.{unwrap_or}
+use Rattle.field.specs.declared.fields.Field as field
 use Rattle.field.specs.Operations.{Operations}
+use Rattle.rows.specs.declared.reading.Rows as rows
 use Rattle.rows.specs.Systems.{System}
 use Rattle.rows.specs.Values.{choice, SatisfiesAll}
+use Rattle.notes.specs.declared.layers.Noted.{Noted}
 use Rattle.notes.specs.Notes.{noted_code, system_under}
+use Rattle.notes.specs.Layers.{codes_in, system_below}
 use Rattle.solver.specs.Laws.{Impossible}
 use Rattle.receiver.specs.declared.stages.Dispute.{Dispute}
 use Rattle.receiver.specs.declared.stages.State.{State}
@@ -34,3 +38,8 @@ abbrev pub Stands : Operations → List (Option ℕ) → System → State → Ty
 Stands K codes S Gathering = ⊤
 Stands K codes S (Settled minutes) = MinutesStand K codes S minutes
 Stands K codes S (Disputed dispute) = DisputeStands K codes S dispute
+
+-- the same of rows under notes
+abbrev pub StandsOver :
+    {X Y : Type 0} {F : field.Ghosts X} {R : rows.Ghosts Y} → Noted X Y F R → State → Type 0
+StandsOver {F = F} noted state = Stands F.ops (codes_in noted) (system_below noted) state

@@ -1,7 +1,6 @@
 //! Blocks.
-ghost use Rattle.notes.specs.Layers.{codes_in, below, system_below};
-ghost use Rattle.receiver.specs.Stands.{Stands};
-ghost use Rattle.receiver.specs.Lemmas.Once.{Stands-prop};
+ghost use Rattle.receiver.specs.Stands.{StandsOver};
+ghost use Rattle.receiver.specs.Lemmas.Once.{StandsOver-prop};
 ghost use Rattle.rows.specs.Ledgers.{row_of};
 ghost use Rattle.receiver.specs.Answers.{first_wrong_weight, first_no_code};
 ghost use Rattle.std.specs.Prelude.{◌≡◌};
@@ -28,7 +27,7 @@ pub struct Block<F: Field, L: Ledger> {
     name: u16,
     noted: Noted<F, L>,
     state: State,
-    ghost stands: { Stands F.ops (codes_in noted) (system_below noted) state } by { Stands-prop F.ops (codes_in noted) (system_below noted) state },
+    ghost stands: { StandsOver noted state } by { StandsOver-prop noted state },
 }
 
 // The number of the first term whose weight is no code; none where all are.
@@ -170,7 +169,8 @@ impl<F: Field, L: Ledger> Block<F, L> {
     ghost use Rattle.receiver.specs.Answers.{answer_to_settle, order_of_settle, answer_to_clear};
     ghost use Rattle.receiver.specs.Settlements.{settlement_case, IsWhole};
     ghost use Rattle.receiver.specs.Uses.{note_call, take_call, settle_call, clear_call};
-    ghost use Rattle.receiver.specs.Laws.{Keeps, LeavesOne, RunTold};
+    ghost use Rattle.solver.specs.Laws.{Gave};
+    ghost use Rattle.receiver.specs.Laws.{Keeps, Stays, LeavesOne, RunTold};
     ghost use Rattle.receiver.specs.Blocks.{contents};
 
     // Refuses in a dispute (1).
@@ -275,6 +275,10 @@ impl<F: Field, L: Ledger> Block<F, L> {
             scout.new ≡ left_by result run.scout scout.old }
         ensures work { OnErr result (work.new ≡ work.old) }
         ensures run { IfOk result (λ _. RunTold F.ops (contents self.old) S.meaning scout.old) }
+        ensures gave { let b = contents self.old in
+            let run = run_of F.ops b S.meaning scout.old in
+            IfOk result (λ _.
+            Gave (rows_shown F.ops b) S.meaning scout.old run.exchanges scout.new) }
         ensures law { let run = run_of F.ops (contents self.old) S.meaning scout.old in
             let asked = left_by result run.exchanges [] in
             let call = settle_call asked (numbered_as settlement_case result) in
@@ -309,6 +313,7 @@ impl<F: Field, L: Ledger> Block<F, L> {
         ensures answer { refusal_only result ≡ profile_answer (length work.old) (length list.old) }
         ensures profiles { IfOk result
             (Profiles F.ops (rows_shown F.ops (contents self.now)) list.old list.new) }
+        ensures law { Stays F.ops (contents self.now) }
         ensures work { OnErr result (work.new ≡ work.old) }
         ensures list { OnErr result (list.new ≡ list.old) }
     {

@@ -2,7 +2,9 @@
 ghost use Rattle.std.specs.Prelude.{◌≡◌};
 ghost use Rattle.solver.specs.Outcomes.{outcome_case};
 ghost use Rattle.receiver.specs.Settlements.{settlement_case, settlement_of};
+ghost use Rattle.receiver.specs.Stages.{stage_case};
 
+use crate::stages::Stage;
 use solver::outcomes::{Count, Extent, Failure, Outcome};
 
 /// How a block's settle ends.
@@ -29,3 +31,10 @@ impl Settlement {
         }
     }
 }
+
+/// A law: no two settlements, and no two stages, have the same number and values. The call does
+/// nothing.
+pub fn answers_are_told_apart()
+    ensures settlements { (a b : Settlement) → settlement_case a ≡ settlement_case b → a ≡ b }
+    ensures stages { (a b : Stage) → stage_case a ≡ stage_case b → a ≡ b }
+{}

@@ -12,31 +12,31 @@ use Rattle.solver.specs.declared.outcomes.Outcome.TheVariants.{Solved, Contradic
 use Rattle.solver.specs.Outcomes.{Case, outcome_case, extent_case, extent_of}
 
 -- the first four values
-abbrev first : List ℕ → ℕ
+abbrev pub first : List ℕ → ℕ
 first [] = 0
 first (v ∷ vs) = v
 
-abbrev rest : List ℕ → List ℕ
+abbrev pub rest : List ℕ → List ℕ
 rest [] = []
 rest (v ∷ vs) = vs
 
-abbrev second : List ℕ → ℕ
+abbrev pub second : List ℕ → ℕ
 second vs = first (rest vs)
 
-abbrev third : List ℕ → ℕ
+abbrev pub third : List ℕ → ℕ
 third vs = first (rest (rest vs))
 
-abbrev fourth : List ℕ → ℕ
+abbrev pub fourth : List ℕ → ℕ
 fourth vs = first (rest (rest (rest vs)))
 
 -- what a case tells of
-abbrev fault_of : ℕ → ℕ → Fault
+abbrev pub fault_of : ℕ → ℕ → Fault
 fault_of n i = cond (n == 1) (Missed i) (cond (n == 2) (Zero i) (NoPlace i))
 
-abbrev side_of : ℕ → Side
+abbrev pub side_of : ℕ → Side
 side_of n = cond (n == 1) sides.Row sides.Column
 
-abbrev outcome_of : Case → Outcome
+abbrev pub outcome_of : Case → Outcome
 outcome_of c =
     let vs = c.values in
     cond (c.number == 1) (Solved (record { pivots = first vs; questions = second vs }))
@@ -52,7 +52,7 @@ failed_own n sides.Column (Missed i) = refl
 failed_own n sides.Column (Zero i) = refl
 failed_own n sides.Column (NoPlace i) = refl
 
-outcome_own : (o : Outcome) → outcome_of (outcome_case o) ≡ o
+pub outcome_own : (o : Outcome) → outcome_of (outcome_case o) ≡ o
 outcome_own (Solved c) = refl
 outcome_own (Contradiction c) = refl
 outcome_own (Failed f) = failed_own f.question f.side f.fault

@@ -10,7 +10,7 @@ use Rattle.receiver.specs.Contents.{with_run, run_of}
 use Rattle.receiver.specs.Blocks.{contents}
 use Rattle.receiver.proofs.Ordered.{settle_ordered}
 use Rattle.receiver.proofs.Settling.{run_is}
-use Rattle.receiver.proofs.Keeping.{found_stands, state_is, told_run, leaves_one, run_told, settle_accepted, settle_refused}
+use Rattle.receiver.proofs.Keeping.{found_stands, state_is, told_run, leaves_one, run_told, run_gave, settle_accepted, settle_refused}
 use Rattle.receiver.proofs.blocks.Block.settle.Given as given
 use Rattle.receiver.proofs.blocks.Block.settle.Goals as goal
 
@@ -59,6 +59,9 @@ returns-clause-scout g c =
 
 pub returns-clause-run : goal.returns-clause-run
 returns-clause-run g c = run_told (lawful g.F.Field.ops g.met.F.Field.laws) (contents c.args.self.now) c.args.self.now.noted.fits (g.met.L.Rows.formed (below c.args.self.now.noted)) g.S.Scout.meaning c.args.scout.now c.settle.new.scout c.new-findings.result c.settle.new.findings c.in_ok-outcome.outcome c.in_ok-outcome.ensures.settles c.found-self.result c.found-self.ensures
+
+pub returns-clause-gave : goal.returns-clause-gave
+returns-clause-gave g c = run_gave (lawful g.F.Field.ops g.met.F.Field.laws) (contents c.args.self.now) c.args.self.now.noted.fits (g.met.L.Rows.formed (below c.args.self.now.noted)) g.S.Scout.meaning c.args.scout.now c.settle.new.scout c.new-findings.result c.settle.new.findings c.in_ok-outcome.outcome c.in_ok-outcome.ensures.settles c.found-self.result c.found-self.ensures
 
 pub returns-clause-law : goal.returns-clause-law
 returns-clause-law g c =
