@@ -1,0 +1,137 @@
+//! Slips: who takes one, and what it does.
+use crate::fixtures::{
+    accepted, disputed, handed_back, hour, look, notes, settles, shows, slip_of, solved, takes,
+    term,
+};
+use field::fields::Field;
+use field::octets::Octets;
+use field::primes::Prime;
+use frame::refusals::Refusal;
+use receiver::blocks::Block;
+use receiver::slips::Slip;
+use receiver::stages::Stage;
+use rows::ledgers::Ledger;
+use rows::reading::Rows;
+use solver::outcomes::Extent;
+use std::process::Abort;
+use std::test::Fail;
+
+// The block hands out no slip, and stays as it is.
+fn refuses_slip<F: Field, L: Ledger>(rt: &impl Abort, block: &mut Block<F, L>) {
+    let before = look(block);
+    match block.slip() {
+        Ok(slip) => panic!(rt; "a slip"),
+        Err(refusal) => assert_eq!(rt; refusal, Refusal::NoSlipToGive),
+    }
+    assert!(rt; look(block) == before);
+}
+
+// No call takes the slip; the block stays as it is, and the slip comes back.
+fn refuses_with<F: Field, L: Ledger>(rt: &impl Abort, block: &mut Block<F, L>, slip: Slip) -> Slip {
+    let before = look(block);
+    let name = slip.name();
+    let slip = handed_back(rt, block.strike(slip, 2), Refusal::WrongSlip);
+    let slip = handed_back(rt, block.strike(slip, 96), Refusal::WrongSlip);
+    let slip = handed_back(rt, block.give_back(slip), Refusal::WrongSlip);
+    let slip = handed_back(rt, block.abandon(slip), Refusal::WrongSlip);
+    assert_eq!(rt; slip.name(), name);
+    assert!(rt; look(block) == before);
+    slip
+}
+
+#[test]
+fn a_block_without_a_dispute_has_no_slip(rt: HostRuntime) -> Result<(), Fail> {
+    let mut block = hour::<Prime>(&rt, 8)?;
+    let mut other = disputed::<Prime>(&rt, 8)?;
+    refuses_slip(&rt, &mut block);
+    let slip = slip_of(&rt, &mut other);
+    let slip = refuses_with(&rt, &mut block, slip);
+    settles(&rt, &mut block, solved(Extent::Whole, 2, 5));
+    refuses_slip(&rt, &mut block);
+    let slip = refuses_with(&rt, &mut block, slip);
+    accepted(&rt, other.strike(slip, 2));
+    refuses_slip(&rt, &mut other);
+    Ok(())
+}
+
+// Only row 0 of the three is not blamed.
+#[test]
+fn a_slip_strikes_a_blamed_row(rt: HostRuntime) -> Result<(), Fail> {
+    for (row, minutes) in [(1, [6, 1]), (2, [5, 1])] {
+        let mut block = disputed::<Octets>(&rt, 8)?;
+        let mut slip = slip_of(&rt, &mut block);
+        refuses_slip(&rt, &mut block);
+        let before = look(&block);
+        for unblamed in [0, 3, 96, usize::MAX] {
+            slip = handed_back(&rt, block.strike(slip, unblamed), Refusal::NoSuchRow);
+            assert!(rt; look(&block) == before);
+        }
+        accepted(&rt, block.strike(slip, row));
+        shows(&rt, &block, Stage::Gathering, &[], &[]);
+        assert_eq!(rt; block.ledger().row_count(), 3);
+        assert_eq!(rt; block.ledger().term_count(row), Some(0));
+        settles(&rt, &mut block, solved(Extent::Whole, 2, 5));
+        shows(&rt, &block, Stage::Settled, &minutes, &[]);
+    }
+    Ok(())
+}
+
+#[test]
+fn a_slip_of_another_name_is_handed_back(rt: HostRuntime) -> Result<(), Fail> {
+    let mut block = disputed::<Prime>(&rt, 8)?;
+    let mut other = disputed::<Prime>(&rt, 9)?;
+    let slip = slip_of(&rt, &mut other);
+    let slip = refuses_with(&rt, &mut block, slip);
+    let own = slip_of(&rt, &mut block);
+    let slip = refuses_with(&rt, &mut block, slip);
+    let own = refuses_with(&rt, &mut other, own);
+    accepted(&rt, block.strike(own, 1));
+    accepted(&rt, other.abandon(slip));
+    Ok(())
+}
+
+// A slip knows its block by the name alone.
+#[test]
+fn blocks_of_one_name_take_each_others_slips(rt: HostRuntime) -> Result<(), Fail> {
+    let mut block = disputed::<Prime>(&rt, 8)?;
+    let mut other = disputed::<Octets>(&rt, 8)?;
+    let slip = slip_of(&rt, &mut block);
+    let slip = refuses_with(&rt, &mut other, slip);
+    let others = slip_of(&rt, &mut other);
+    accepted(&rt, other.strike(slip, 1));
+    accepted(&rt, block.give_back(others));
+    shows(&rt, &block, Stage::Disputed, &[], &[0, 65520, 1]);
+    Ok(())
+}
+
+#[test]
+fn a_slip_given_back_is_handed_out_again(rt: HostRuntime) -> Result<(), Fail> {
+    let mut block = disputed::<Prime>(&rt, 8)?;
+    let before = look(&block);
+    for _ in 0..3 {
+        let slip = slip_of(&rt, &mut block);
+        assert_eq!(rt; slip.name(), 8);
+        assert!(rt; look(&block) == before);
+        refuses_slip(&rt, &mut block);
+        accepted(&rt, block.give_back(slip));
+        assert!(rt; look(&block) == before);
+    }
+    Ok(())
+}
+
+#[test]
+fn a_dispute_is_abandoned(rt: HostRuntime) -> Result<(), Fail> {
+    let mut block = hour::<Prime>(&rt, 8)?;
+    notes(&rt, &mut block, 0, &[6]);
+    settles(&rt, &mut block, crate::fixtures::contradiction(1, 4));
+    shows(&rt, &block, Stage::Disputed, &[], &[0, 1]);
+    let slip = slip_of(&rt, &mut block);
+    accepted(&rt, block.abandon(slip));
+    shows(&rt, &block, Stage::Gathering, &[], &[]);
+    assert_eq!(rt; block.noted_count(), 0);
+    assert_eq!(rt; block.ledger().row_count(), 0);
+    takes(&rt, &mut block, 0, &[(6, &[term(0, 1)])]);
+    settles(&rt, &mut block, solved(Extent::Part, 1, 3));
+    shows(&rt, &block, Stage::Settled, &[6, 0], &[]);
+    Ok(())
+}
