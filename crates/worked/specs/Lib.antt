@@ -1,3 +1,2 @@
 pub mod Facts
-pub mod Settled
 pub mod Sevenths

@@ -8,7 +8,6 @@ mod row_tests;
 pub mod sevens;
 #[cfg(test)]
 mod solver_tests;
-pub mod whole;
 
 #[cfg(test)]
 mod tests {

@@ -2,7 +2,6 @@
 use crate::row_tests::{table, take};
 use crate::sevens::Seven;
 use crate::tests::term;
-use crate::whole::settle_noted;
 use field::fields::Field;
 use field::octets::Octets;
 use field::primes::Prime;
@@ -197,11 +196,6 @@ fn an_hour_that_is_all_notes_settles(rt: HostRuntime) -> Result<(), Fail> {
     assert_eq!(rt; x, [5, 7]);
     let report = report_noted(rt.alloc(), &noted)?;
     assert!(rt; report.as_bytes() == b"profile,0\nsolved,whole,0,1,5,7\n".as_slice());
-    let mut work = [0; 8192];
-    assert_eq!(rt;
-        settle_noted(&noted, &mut Scan, &mut work, &mut used_record()),
-        solved(0, 1).map(|outcome| (outcome, Some(Extent::Whole)))
-    );
     let other = all_noted(&rt, 18)?;
     settles::<Prime, Noted<Prime, Table>>(&rt, &other, contradiction(0, 2), &[], &[1]);
     Ok(())
