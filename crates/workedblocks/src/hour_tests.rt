@@ -9,10 +9,12 @@ use field::primes::Prime;
 use frame::refusals::Refusal;
 use frame::terms::Term;
 use receiver::blocks::Block;
+use receiver::settlements::Settlement;
 use receiver::stages::Stage;
 use rows::ledgers::Ledger;
 use rows::reading::Rows;
 use solver::outcomes::Extent;
+use solver::scouts::Scan;
 use std::process::Abort;
 use std::test::Fail;
 
@@ -25,11 +27,10 @@ fn fills<L: Ledger + Drop>(rt: &impl Abort, ledger: L, most: usize) -> L {
     for row in 0..most {
         assert_eq!(rt; take(&mut block, 7, &[term(0, 1)]), Ok(row));
     }
-    let before = look(&block);
-    for (weight, refusal) in [(1, Refusal::LedgerFull), (256, Refusal::NoCode(0))] {
-        assert_eq!(rt; take(&mut block, 7, &[term(0, weight)]), Err(refusal));
-    }
-    assert!(rt; look(&block) == before);
+    assert_eq!(rt;
+        take(&mut block, 7, &[term(0, 1)]),
+        Err(Refusal::LedgerFull)
+    );
     settles(rt, &mut block, solved(Extent::Whole, 1, 3));
     shows(rt, &block, Stage::Settled, &[7], &[]);
     let ledger = block.into_ledger();
@@ -43,21 +44,6 @@ fn a_block_fills_its_ledger_and_gives_it_back(rt: HostRuntime) -> Result<(), Fai
     assert_eq!(rt; twice.sum(95), Some(7));
     let capped = fills(&rt, fills(&rt, cap(1, 1)?, 1), 1);
     assert_eq!(rt; capped.into_below().sum(0), Some(7));
-    Ok(())
-}
-
-#[test]
-fn an_hour_of_one_minute(rt: HostRuntime) -> Result<(), Fail> {
-    let mut block = block::<Prime>(3, 1)?;
-    settles(&rt, &mut block, solved(Extent::Part, 0, 1));
-    shows(&rt, &block, Stage::Settled, &[0], &[]);
-    takes(&rt, &mut block, 0, &[(10, &[term(0, 2)])]);
-    settles(&rt, &mut block, solved(Extent::Whole, 1, 3));
-    shows(&rt, &block, Stage::Settled, &[5], &[]);
-    notes(&rt, &mut block, 0, &[5]);
-    shows(&rt, &block, Stage::Gathering, &[], &[]);
-    settles(&rt, &mut block, solved(Extent::Whole, 0, 1));
-    shows(&rt, &block, Stage::Settled, &[5], &[]);
     Ok(())
 }
 
@@ -94,10 +80,11 @@ fn both_ends_of_an_hour_are_noted(rt: HostRuntime) -> Result<(), Fail> {
     ends_are_noted::<Octets>(&rt, 255, [19, 254])
 }
 
-// An hour whose minutes are all noted, without a frame.
+// An hour without a frame: nothing is noted, and then all minutes are.
 fn notes_alone<F: Field>(rt: &impl Abort, codes: &[u16]) -> Result<(), Fail> {
     let mut block = block::<F>(0, codes.len())?;
     assert_eq!(rt; block.width(), codes.len());
+    settles(rt, &mut block, solved(Extent::Part, 0, 1));
     notes(rt, &mut block, 0, codes);
     assert_eq!(rt; block.noted_count(), codes.len());
     for (minute, code) in codes.iter().enumerate() {
@@ -114,54 +101,47 @@ fn an_hour_may_be_all_notes(rt: HostRuntime) -> Result<(), Fail> {
     for (place, code) in codes.iter_mut().zip(190..254) {
         *place = code;
     }
-    for minutes in [&[0, 255, 1], codes.as_slice()] {
+    for minutes in [[5].as_slice(), [0, 255, 1].as_slice(), codes.as_slice()] {
         notes_alone::<Prime>(&rt, minutes)?;
         notes_alone::<Octets>(&rt, minutes)?;
     }
     Ok(())
 }
 
-// Minutes 5 and 7 are noted, and a frame says that twice the first and the second make 17, or 18.
-#[test]
-fn a_frame_may_say_what_is_noted(rt: HostRuntime) -> Result<(), Fail> {
-    for (sum, settlement, stage, minutes, blame) in [
-        (
-            17,
-            solved(Extent::Whole, 0, 1),
-            Stage::Settled,
-            [5, 7].as_slice(),
-            [].as_slice(),
-        ),
-        (18, contradiction(0, 2), Stage::Disputed, &[], &[1]),
-    ] {
-        let mut block = block::<Prime>(0, 2)?;
-        takes(&rt, &mut block, 0, &[(sum, &[term(0, 2), term(1, 1)])]);
-        notes(&rt, &mut block, 0, &[5, 7]);
-        settles(&rt, &mut block, settlement);
-        shows(&rt, &block, stage, minutes, blame);
+// An hour of three minutes, of which some are noted, with the frame that twice minute 0 and three
+// times minute 1 make 20: how it settles, and what it shows and blames.
+fn notes_leave(
+    rt: &impl Abort,
+    noted: &[(usize, u16)],
+    settlement: Settlement,
+    minutes: &[u16],
+    blame: &[u16],
+) -> Result<(), Fail> {
+    let mut block = block::<Prime>(0, 3)?;
+    takes(rt, &mut block, 0, &[(20, &[term(0, 2), term(1, 3)])]);
+    for (minute, code) in noted {
+        notes(rt, &mut block, *minute, &[*code]);
     }
+    settles(rt, &mut block, settlement);
+    let stage = if blame.is_empty() {
+        Stage::Settled
+    } else {
+        Stage::Disputed
+    };
+    shows(rt, &block, stage, minutes, blame);
     Ok(())
 }
 
-// Twice minute 0 and three times minute 1 make 20; then minute 1 is noted as 4, and minute 2 as 9.
 #[test]
-fn a_part_of_an_hour_is_found(rt: HostRuntime) -> Result<(), Fail> {
-    let mut block = block::<Prime>(0, 3)?;
-    takes(&rt, &mut block, 0, &[(20, &[term(0, 2), term(1, 3)])]);
-    for (noted, extent, minutes) in [
-        (0, Extent::Part, [10, 0, 0]),
-        (1, Extent::Part, [4, 4, 0]),
-        (2, Extent::Whole, [4, 4, 9]),
-    ] {
-        assert_eq!(rt; block.noted_count(), noted);
-        settles(&rt, &mut block, solved(extent, 1, 3));
-        shows(&rt, &block, Stage::Settled, &minutes, &[]);
-        let next = [(1, 4), (2, 9)].get(noted).copied();
-        if let Some((minute, code)) = next {
-            notes(&rt, &mut block, minute, &[code]);
-        }
-    }
-    Ok(())
+fn notes_leave_a_part_or_the_whole(rt: HostRuntime) -> Result<(), Fail> {
+    let part = solved(Extent::Part, 1, 3);
+    let whole = solved(Extent::Whole, 1, 3);
+    notes_leave(&rt, &[], part, &[10, 0, 0], &[])?;
+    notes_leave(&rt, &[(1, 4)], part, &[4, 4, 0], &[])?;
+    notes_leave(&rt, &[(2, 9), (1, 4)], whole, &[4, 4, 9], &[])?;
+    let all = [(2, 9), (1, 4), (0, 4)];
+    notes_leave(&rt, &all, solved(Extent::Whole, 0, 1), &[4, 4, 9], &[])?;
+    notes_leave(&rt, &[(0, 5), (1, 4)], contradiction(0, 2), &[], &[1])
 }
 
 // The profile of the block's rows is this list, and neither a short work space nor a short list
@@ -195,7 +175,7 @@ fn profiles_in_every_stage<F: Field>(rt: &impl Abort, sum: u16, stage: Stage) ->
     takes(rt, &mut block, 0, frames);
     profiles(rt, &block, &[0, 2]);
     let mut work = [0; 8192];
-    assert!(rt; block.settle(&mut solver::scouts::Scan, &mut work).is_ok());
+    assert!(rt; block.settle(&mut Scan, &mut work).is_ok());
     assert_eq!(rt; block.stage(), stage);
     profiles(rt, &block, &[0, 2]);
     Ok(())

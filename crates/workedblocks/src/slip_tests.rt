@@ -1,7 +1,7 @@
 //! Slips: who takes one, and what it does.
 use crate::fixtures::{
-    accepted, disputed, handed_back, hour, look, notes, settles, shows, slip_of, solved, takes,
-    term,
+    accepted, contradiction, disputed, handed_back, hour, look, notes, settles, shows, slip_of,
+    solved, takes, term,
 };
 use field::fields::Field;
 use field::octets::Octets;
@@ -20,7 +20,7 @@ use std::test::Fail;
 fn refuses_slip<F: Field, L: Ledger>(rt: &impl Abort, block: &mut Block<F, L>) {
     let before = look(block);
     match block.slip() {
-        Ok(slip) => panic!(rt; "a slip"),
+        Ok(_slip) => panic!(rt; "a slip is handed out"),
         Err(refusal) => assert_eq!(rt; refusal, Refusal::NoSlipToGive),
     }
     assert!(rt; look(block) == before);
@@ -76,55 +76,40 @@ fn a_slip_strikes_a_blamed_row(rt: HostRuntime) -> Result<(), Fail> {
     Ok(())
 }
 
+// A slip knows its block by the name alone: the block's twin has the same.
 #[test]
-fn a_slip_of_another_name_is_handed_back(rt: HostRuntime) -> Result<(), Fail> {
+fn a_slip_is_known_by_its_name(rt: HostRuntime) -> Result<(), Fail> {
     let mut block = disputed::<Prime>(&rt, 8)?;
+    let mut twin = disputed::<Octets>(&rt, 8)?;
     let mut other = disputed::<Prime>(&rt, 9)?;
-    let slip = slip_of(&rt, &mut other);
-    let slip = refuses_with(&rt, &mut block, slip);
-    let own = slip_of(&rt, &mut block);
-    let slip = refuses_with(&rt, &mut block, slip);
-    let own = refuses_with(&rt, &mut other, own);
-    accepted(&rt, block.strike(own, 1));
-    accepted(&rt, other.abandon(slip));
+    let other_slip = slip_of(&rt, &mut other);
+    let other_slip = refuses_with(&rt, &mut block, other_slip);
+    let own_slip = slip_of(&rt, &mut block);
+    let other_slip = refuses_with(&rt, &mut block, other_slip);
+    accepted(&rt, other.abandon(other_slip));
+    let own_slip = refuses_with(&rt, &mut twin, own_slip);
+    let twin_slip = slip_of(&rt, &mut twin);
+    accepted(&rt, block.strike(twin_slip, 1));
+    accepted(&rt, twin.give_back(own_slip));
+    shows(&rt, &twin, Stage::Disputed, &[], &[0, 1, 1]);
     Ok(())
 }
 
-// A slip knows its block by the name alone.
-#[test]
-fn blocks_of_one_name_take_each_others_slips(rt: HostRuntime) -> Result<(), Fail> {
-    let mut block = disputed::<Prime>(&rt, 8)?;
-    let mut other = disputed::<Octets>(&rt, 8)?;
-    let slip = slip_of(&rt, &mut block);
-    let slip = refuses_with(&rt, &mut other, slip);
-    let others = slip_of(&rt, &mut other);
-    accepted(&rt, other.strike(slip, 1));
-    accepted(&rt, block.give_back(others));
-    shows(&rt, &block, Stage::Disputed, &[], &[0, 65520, 1]);
-    Ok(())
-}
-
-#[test]
-fn a_slip_given_back_is_handed_out_again(rt: HostRuntime) -> Result<(), Fail> {
-    let mut block = disputed::<Prime>(&rt, 8)?;
-    let before = look(&block);
-    for _ in 0..3 {
-        let slip = slip_of(&rt, &mut block);
-        assert_eq!(rt; slip.name(), 8);
-        assert!(rt; look(&block) == before);
-        refuses_slip(&rt, &mut block);
-        accepted(&rt, block.give_back(slip));
-        assert!(rt; look(&block) == before);
-    }
-    Ok(())
-}
-
+// Minute 0 is noted as 6, and row 1 says that it is 5. A slip is given back before one abandons.
 #[test]
 fn a_dispute_is_abandoned(rt: HostRuntime) -> Result<(), Fail> {
     let mut block = hour::<Prime>(&rt, 8)?;
     notes(&rt, &mut block, 0, &[6]);
-    settles(&rt, &mut block, crate::fixtures::contradiction(1, 4));
+    settles(&rt, &mut block, contradiction(1, 4));
     shows(&rt, &block, Stage::Disputed, &[], &[0, 1]);
+    let before = look(&block);
+    for _ in 0..2 {
+        let slip = slip_of(&rt, &mut block);
+        refuses_slip(&rt, &mut block);
+        assert_eq!(rt; block.clear(), Err(Refusal::Disputed));
+        accepted(&rt, block.give_back(slip));
+        assert!(rt; look(&block) == before);
+    }
     let slip = slip_of(&rt, &mut block);
     accepted(&rt, block.abandon(slip));
     shows(&rt, &block, Stage::Gathering, &[], &[]);
