@@ -1,6 +1,5 @@
 -- What is shown after a take and a settle satisfies the frame. Assumes nothing.
-use Rattle.std.proofs.Common.{◌≡◌, ℕ, ◌<◌, List, ◌∷◌, length, Some, Ok, Err, Result, IfOk, refl, sym, subst, arith}
-use Rattle.std.specs.List.{Contains}
+use Rattle.std.proofs.Common.{◌≡◌, ℕ, ◌<◌, List, ◌∷◌, Some, Ok, Err, Result, IfOk, refl, sym, subst, arith}
 use Rattle.field.specs.Operations.{Operations}
 use Rattle.frame.specs.Refusals.{RefusalCase}
 use Rattle.rows.specs.Systems.{Row}
@@ -8,8 +7,8 @@ use Rattle.rows.specs.Values.{Satisfies}
 use Rattle.solver.specs.Outcomes.{Case}
 use Rattle.solver.specs.Runs.{Exchange}
 use Rattle.receiver.specs.Contents.{Contents, shown_at}
-use Rattle.receiver.specs.Uses.{Use, Taken, take_call, settle_call, frames}
-use Rattle.receiver.specs.Laws.{IsChoice, Had, Safe, Keeps}
+use Rattle.receiver.specs.Uses.{Use, take_call, settle_call}
+use Rattle.receiver.specs.Laws.{IsChoice, Safe, Keeps}
 use Rattle.disputes.specs.Clients.{WasUsed, ShowsWith}
 
 module _ (K : Operations) (b taken settled : Contents) (r : Row) (n : ℕ) (take : Keeps K (take_call r (Ok n)) b taken) (asked : List Exchange) (answer : Result Case RefusalCase) (settle : Keeps K (settle_call asked answer) taken settled) where

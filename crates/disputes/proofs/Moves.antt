@@ -1,7 +1,6 @@
 -- A slip handed out and taken back leaves a dispute as it was. Assumes nothing.
-use Rattle.std.proofs.Common.{◌≡◌, ℕ, ◌==◌, ◌&&◌, Bool, true, false, not, length, Some, None, Ok, Err, Option, Result, sym, refl, ap, subst, ◌∙◌, true≢false}
+use Rattle.std.proofs.Common.{◌≡◌, ℕ, ◌==◌, ◌&&◌, Bool, true, false, not, length, Ok, Err, Result, sym, refl, ap, ◌∙◌, true≢false}
 use Rattle.std.proofs.lemmas.Bool.{eq-eqb}
-use Rattle.std.proofs.lemmas.Option.{none-some}
 use Rattle.std.specs.Option.{unwrap_or}
 use Rattle.frame.specs.Refusals.{RefusalCase, refusal_case, refused}
 use Rattle.frame.specs.Orders.{refuse, when}

@@ -1,6 +1,5 @@
 -- Settlements and stages are told apart by their cases. Assumes nothing.
-use Rattle.std.proofs.Common.{◌≡◌, ℕ, Bool, true, false, cond, ◌==◌, List, [], ◌∷◌, slice_index, drop, sym, refl, ap, ◌∙◌}
-use Rattle.solver.specs.declared.outcomes.Extent.{Extent}
+use Rattle.std.proofs.Common.{◌≡◌, ℕ, cond, ◌==◌, slice_index, drop, sym, refl, ap, ◌∙◌}
 use Rattle.solver.specs.declared.outcomes.Extent.TheVariants.{Whole, Part}
 use Rattle.solver.specs.declared.outcomes.Outcome.{Outcome}
 use Rattle.solver.specs.declared.outcomes.Outcome.TheVariants as outcomes

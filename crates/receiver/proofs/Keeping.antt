@@ -62,14 +62,16 @@ note_free K b c code e =
     (leb-false b.system.width c (when_none _ second.0), none_is (noted_code b.codes c) (when_none _ fourth.0))
 
 -- what an accepted take says
+one_value : (n k : ℕ) → ◌≡◌ {A = Result ℕ RefusalCase} (Ok n) (Ok k) → n ≡ k
+one_value n k e = cc
+
 take_last : (K : Operations) (b : Contents) (r : Row) (n : ℕ) → Ok n ≡ answer_to_take K b r → n ≡ length b.system.rows
 take_last K b r n e =
     let first = refuse_ok 1 _ _ n e in
     let second = refuse_ok 2 _ _ n first.1 in
     let third = refuse_ok 3 _ _ n second.1 in
     let fourth = refuse_ok 5 _ _ n third.1 in
-    let same : ◌≡◌ {A = Result ℕ RefusalCase} (Ok n) (Ok (length b.system.rows)) = fourth.1 in
-    cc
+    one_value n (length b.system.rows) fourth.1
 
 no_notes_are : (K : Operations) → NotesAre no_codes []
 no_notes_are K c code = (λ e. absurd (not-suc-le-zero ((no_codes_fit K 0 no_codes refl).minute c code e)), λ h. absurd (not-suc-le-zero h.1))

@@ -22,6 +22,11 @@ use solver::runs::settle;
 use solver::scouts::Scout;
 
 /// A block: an hour of noted minutes and of frames in a ledger, and what the last settle found.
+///
+/// In any use of it, calls that are refused among them, what `show` gives fits every reading noted
+/// and every frame taken since the last clearing and not struck; where it is disputed, no choice of
+/// minutes fits them; and a settle failed exactly where its scout's answers were not all true. Each
+/// call promises so by its clause `law`.
 #[derive(Drop)]
 pub struct Block<F: Field, L: Ledger> {
     name: u16,
@@ -127,7 +132,8 @@ impl<F: Field, L: Ledger> Block<F, L> {
 
     /// The rows under the notes: those that a settle is about.
     pub fn rows(&self) -> &Noted<F, L>
-        ensures { system_noted result.now ≡ rows_shown F.ops (contents self.now) }
+        ensures noted { result.now ≡ noted_in self.now }
+        ensures rows { system_noted result.now ≡ rows_shown F.ops (contents self.now) }
     {
         &self.noted
     }
@@ -254,9 +260,10 @@ impl<F: Field, L: Ledger> Block<F, L> {
         Ok(row)
     }
 
-    /// Settles the rows under the notes with a scout: settled where the run is solved, disputed on a
-    /// contradiction, gathering where it failed. Refuses in a dispute (1), then a work space under
-    /// 8192 words (6).
+    /// Settles the rows under the notes with a scout, and tells how that ended: settled where the
+    /// run is solved, disputed on a contradiction, gathering where it failed. A solved one is whole
+    /// where no other choice fits what was noted and taken. Refuses in a dispute (1), then a work
+    /// space under 8192 words (6), and then changes nothing, the scout included.
     pub fn settle<S: Scout<F>>(
         &mut self,
         scout: &mut S,
@@ -313,9 +320,9 @@ impl<F: Field, L: Ledger> Block<F, L> {
         ensures answer { refusal_only result ≡ profile_answer (length work.old) (length list.old) }
         ensures profiles { IfOk result
             (Profiles F.ops (rows_shown F.ops (contents self.now)) list.old list.new) }
-        ensures law { Stays F.ops (contents self.now) }
         ensures work { OnErr result (work.new ≡ work.old) }
         ensures list { OnErr result (list.new ≡ list.old) }
+        ensures law { Stays F.ops (contents self.now) }
     {
         profile::<F, Noted<F, L>>(&self.noted, work, list)
     }

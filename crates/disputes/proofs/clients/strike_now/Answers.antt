@@ -1,6 +1,4 @@
-use Rattle.std.proofs.Common.{rules, ◌≡◌, ap, subst, sym, ◌∙◌, Err, Ok}
-use Rattle.receiver.specs.Answers.{answer_to_strike}
-use Rattle.receiver.specs.Contents.{with_slip}
+use Rattle.std.proofs.Common.{rules}
 use Rattle.receiver.specs.Blocks.{contents}
 use Rattle.disputes.proofs.Moves.{returned, strike_refused}
 use Rattle.disputes.proofs.clients.strike_now.Goals as goal

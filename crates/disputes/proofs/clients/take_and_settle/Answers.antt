@@ -1,4 +1,3 @@
-use Rattle.std.proofs.Common.{rules}
 use Rattle.receiver.specs.Blocks.{contents}
 use Rattle.rows.specs.Ledgers.{row_of}
 use Rattle.disputes.specs.Clients.{WasUsed, ShowsWith}
