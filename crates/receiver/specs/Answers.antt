@@ -1,6 +1,6 @@
 -- What the calls of a block answer, and in which order they refuse. Assumes nothing.
-use Rattle.std.specs.Prelude.{◌≡◌, ℕ, ◌<◌, ◌≤◌, ◌++◌, ◌&&◌, Bool, not, List, [], ◌∷◌, length, map, Ok}
-use Rattle.std.specs.Prelude.{IsTrue, Option, Result, ◌==◌, nat_le, nat_lt, slice_index}
+use Rattle.std.specs.Prelude.{◌≡◌, ℕ, ◌<◌, ◌≤◌, ◌++◌, ◌&&◌, Bool, not, List, [], ◌∷◌, length, map}
+use Rattle.std.specs.Prelude.{Ok, IsTrue, Option, Result, ◌==◌, nat_le, nat_lt, slice_index}
 use Rattle.std.specs.List.{position_from}
 use Rattle.field.specs.Operations.{Operations}
 use Rattle.frame.specs.declared.terms.Term.{Term}
@@ -86,8 +86,8 @@ abbrev pub answer_to_strike : Contents → ℕ → ℕ → Result (Unit {0}) Ref
 answer_to_strike b name i =
     refuse 8 (when (not (takes_back b name))) (refuse 9 (when (is_unblamed b i)) (Ok tt))
 
--- the order in which a strike is refused: 8 for another name or no slip out, 9 for a row that is not
--- blamed
+-- the order in which a strike is refused: 8 for another name or no slip out, 9 for a row that is
+-- not blamed
 abbrev pub order_of_strike : Contents → ℕ → ℕ → Order
 order_of_strike b name i =
     rule 8 (AtStart (¬ IsTrue (takes_back b name)))

@@ -4,7 +4,8 @@ use Rattle.solver.specs.declared.outcomes.Extent.TheVariants.{Whole}
 use Rattle.solver.specs.declared.outcomes.Outcome.TheVariants as outcomes
 use Rattle.solver.specs.Outcomes.{Case, extent_case, extent_of, outcome_case, IsSolved}
 use Rattle.receiver.specs.declared.settlements.Settlement.{Settlement}
-use Rattle.receiver.specs.declared.settlements.Settlement.TheVariants.{Solved, Contradiction, Failed}
+use Rattle.receiver.specs.declared.settlements.Settlement.TheVariants.{Solved, Contradiction}
+use Rattle.receiver.specs.declared.settlements.Settlement.TheVariants.{Failed}
 
 -- the values of a solved run, after the number of its extent
 abbrev pub solved_as : Case → Case → Case

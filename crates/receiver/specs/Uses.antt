@@ -44,6 +44,11 @@ effect (abandon_call name (Ok u)) = clears
 effect (clear_call (Ok u)) = clears
 effect call = nothing
 
+-- what the calls of a use make, one after the other, of what holds of a block just made
+abbrev pub said_by : {X : Type 0} → (Effect → X → X) → X → Use → X
+said_by after start [] = start
+said_by after start (call ∷ calls) = after (effect call) (said_by after start calls)
+
 -- a reading: a code noted for a minute
 pub record Reading : Type 0 where
   pub minute : ℕ
@@ -54,17 +59,16 @@ pub record Taken : Type 0 where
   pub number : ℕ
   pub row : Row
 
--- the readings noted since the last clearing
+-- the readings noted since the last clearing: after a call more, and after a use
 abbrev pub read_after : Effect → List Reading → List Reading
 read_after (notes c code) rs = record { minute = c; code = code } ∷ rs
 read_after clears rs = []
 read_after other rs = rs
 
 abbrev pub readings : Use → List Reading
-readings [] = []
-readings (call ∷ calls) = read_after (effect call) (readings calls)
+readings = said_by read_after []
 
--- the frames taken since the last clearing and not struck
+-- the frames taken since the last clearing and not struck, likewise
 abbrev pub taken_after : Effect → List Taken → List Taken
 taken_after (takes n r) fs = record { number = n; row = r } ∷ fs
 taken_after (strikes n) fs = filter (λ f. not (f.number == n)) fs
@@ -72,10 +76,10 @@ taken_after clears fs = []
 taken_after other fs = fs
 
 abbrev pub frames : Use → List Taken
-frames [] = []
-frames (call ∷ calls) = taken_after (effect call) (frames calls)
+frames = said_by taken_after []
 
--- the rows of a settle: the frames taken since the last clearing, in order, a struck one empty
+-- the rows of a settle, likewise: the frames taken since the last clearing, in order, a struck one
+-- empty
 abbrev pub rows_after : Effect → List Row → List Row
 rows_after (takes n r) rs = rs ++ (r ∷ [])
 rows_after (strikes n) rs = slice_set rs n empty_row
@@ -83,18 +87,16 @@ rows_after clears rs = []
 rows_after other rs = rs
 
 abbrev pub rows_of : Use → List Row
-rows_of [] = []
-rows_of (call ∷ calls) = rows_after (effect call) (rows_of calls)
+rows_of = said_by rows_after []
 
--- the notes of a settle: the code of each reading at its minute
+-- the notes of a settle, likewise: the code of each reading at its minute
 abbrev pub codes_after : Effect → List (Option ℕ) → List (Option ℕ)
 codes_after (notes c code) codes = slice_set codes c (Some code)
 codes_after clears codes = no_codes
 codes_after other codes = codes
 
 abbrev pub codes_of : Use → List (Option ℕ)
-codes_of [] = no_codes
-codes_of (call ∷ calls) = codes_after (effect call) (codes_of calls)
+codes_of = said_by codes_after no_codes
 
 -- the rows of an hour of m minutes
 abbrev pub system_of : ℕ → Use → System
