@@ -7,16 +7,17 @@ use Rattle.rows.specs.Values.{Satisfies}
 use Rattle.solver.specs.Outcomes.{Case}
 use Rattle.solver.specs.Runs.{Exchange}
 use Rattle.receiver.specs.Contents.{Contents, shown_at}
-use Rattle.receiver.specs.Uses.{Use, take_call, settle_call}
-use Rattle.receiver.specs.Laws.{IsChoice, Safe, Keeps}
+use Rattle.receiver.specs.Uses.{Call, Use, take_call, settle_call}
+use Rattle.receiver.specs.Laws.{IsChoice, Safe, KeepsSafe}
 use Rattle.disputes.specs.Clients.{WasUsed, ShowsWith}
 
-module _ (K : Operations) (b taken settled : Contents) (r : Row) (n : ℕ) (take : Keeps K (take_call r (Ok n)) b taken) (asked : List Exchange) (answer : Result Case RefusalCase) (settle : Keeps K (settle_call asked answer) taken settled) where
+-- one call more
+pub used : (K : Operations) (call : Call) (b b' : Contents) → KeepsSafe K call b b' → WasUsed K b → WasUsed K b'
+used K call b b' keeps was = (was.0, call ∷ was.1, (keeps was.0 was.1 was.2).0)
+
+module _ (K : Operations) (b taken settled : Contents) (r : Row) (n : ℕ) (take : KeepsSafe K (take_call r (Ok n)) b taken) (asked : List Exchange) (answer : Result Case RefusalCase) (settle : KeepsSafe K (settle_call asked answer) taken settled) where
   abbrev both : Use → Use
   both calls = settle_call asked answer ∷ take_call r (Ok n) ∷ calls
-
-  pub used : WasUsed K b → WasUsed K settled
-  used was = (was.0, both was.1, (settle was.0 (take_call r (Ok n) ∷ was.1) (take was.0 was.1 was.2).0).0)
 
   safe_shows : (m : ℕ) (calls : Use) → Safe K m (both calls) settled → (c code : ℕ) → shown_at settled c ≡ Some code → (x : ℕ → ℕ) × IsChoice K m x × ((d : ℕ) → d < m → shown_at settled d ≡ Some (x d)) × Satisfies K r x
   safe_shows m calls safe c code e =

@@ -7,8 +7,8 @@ use Rattle.frame.specs.Orders.{refuse, when}
 use Rattle.frame.proofs.Apart.{err_ok}
 use Rattle.receiver.specs.declared.stages.State.{State}
 use Rattle.receiver.specs.declared.stages.State.TheVariants.{Gathering, Settled, Disputed}
-use Rattle.receiver.specs.Stages.{blamed_in, slip_out, slip_due, slip_moved}
-use Rattle.receiver.specs.Contents.{Contents, left_by, with_slip}
+use Rattle.receiver.specs.Stages.{blamed_in, blame_in, slip_out, slip_due, slip_moved}
+use Rattle.receiver.specs.Contents.{Contents, left_by, handed_out, taken_back}
 use Rattle.receiver.specs.Answers.{answer_to_slip, answer_with_slip, answer_to_strike}
 use Rattle.receiver.specs.declared.slips.Unspent.{Unspent}
 use Rattle.receiver.specs.Slips.{unspent_numbered}
@@ -40,7 +40,7 @@ due b true name e = (refl, cc)
 due b false name e = absurd (err_ok (refused 7 0) name (sym e))
 
 module _ (b : Contents) (name : ℕ) (given : Ok name ≡ answer_to_slip b) where
-  pub back : with_slip (with_slip b true) false ≡ b
+  pub back : taken_back (handed_out b) ≡ b
   back = ap (λ state. record b { state = state }) (moved_back b.state (due b (slip_due b.state) name given).0)
 
   takes : (name == b.name) && slip_out (slip_moved true b.state) ≡ true
@@ -48,15 +48,15 @@ module _ (b : Contents) (name : ℕ) (given : Ok name ≡ answer_to_slip b) wher
       let slip = due b (slip_due b.state) name given in
       rw (eq-eqb name b.name slip.1, out_then b.state slip.0) refl
 
-  pub strike_refused : (row : ℕ) (answer : Result (Unit {0}) RefusalCase) → answer ≡ answer_to_strike (with_slip b true) name row → answer ≡ answer_to_strike_now b row
+  pub strike_refused : (row : ℕ) (answer : Result (Unit {0}) RefusalCase) → answer ≡ answer_to_strike (handed_out b) name row → answer ≡ answer_to_strike_now b row
   strike_refused row answer e =
       e
-      ∙ ap (λ t. refuse 8 (when (not t)) (refuse 9 (when (unwrap_or (blamed_in (slip_moved true b.state) (length b.system.rows) row) 0 == 0)) (Ok tt))) takes
+      ∙ ap (λ t. refuse 8 (when (not t)) (refuse 9 (when (blame_in (slip_moved true b.state) (length b.system.rows) row == 0)) (Ok tt))) takes
       ∙ ap (λ u. refuse 9 (when (unwrap_or u 0 == 0)) (Ok tt)) (same_blame b.state (length b.system.rows) row true)
       ∙ ap (λ t. refuse 7 (when (not t)) (refuse 9 (when (unwrap_or (blamed_in b.state (length b.system.rows) row) 0 == 0)) (Ok tt))) (sym (due b (slip_due b.state) name given).0)
 
   -- the block's own slip is taken back
-  pub returned : (b' : Contents) (result : Result (Unit {0}) Unspent) → unspent_numbered result ≡ answer_with_slip (with_slip b true) name → b' ≡ left_by result (with_slip (with_slip b true) false) (with_slip b true) → b' ≡ b
+  pub returned : (b' : Contents) (result : Result (Unit {0}) Unspent) → unspent_numbered result ≡ answer_with_slip (handed_out b) name → b' ≡ left_by result (taken_back (handed_out b)) (handed_out b) → b' ≡ b
   returned b' (Ok u) answer left = left ∙ back
   returned b' (Err e) answer left =
       absurd (err_ok (refusal_case e.refusal) tt (answer ∙ ap (λ t. refuse 8 (when (not t)) (Ok tt)) takes))

@@ -15,7 +15,7 @@ use Rattle.notes.specs.Notes.{noted_code, put_in, system_under, NotesFit, HasNot
 use Rattle.notes.proofs.Satisfied.{all_satisfied}
 use Rattle.receiver.specs.declared.stages.State.{State}
 use Rattle.receiver.specs.declared.stages.State.TheVariants.{Gathering, Settled, Disputed}
-use Rattle.receiver.specs.Stages.{IsSettled, IsDisputed, shown_in, blamed_in}
+use Rattle.receiver.specs.Stages.{IsSettled, IsDisputed, shown_in, blame_in}
 use Rattle.solver.specs.Laws.{Impossible}
 use Rattle.receiver.specs.Stands.{MinutesStand, Stands}
 use Rattle.receiver.specs.Contents.{Contents}
@@ -43,7 +43,7 @@ module _ (K : Operations) (codes : List (Option ℕ)) (S : System) (fit : NotesF
   notes_shown (Disputed dispute) stand e c code noted = absurd (let z : ◌≡◌ {A = ℕ} 3 2 = e in omega arith)
 
 -- the rows that a disputed block blames are impossible together
-pub blame_impossible : (K : Operations) (codes : List (Option ℕ)) (S : System) (state : State) → Stands K codes S state → IsDisputed state → Impossible K (system_under K codes S) (λ i. unwrap_or (blamed_in state (length S.rows) i) 0)
+pub blame_impossible : (K : Operations) (codes : List (Option ℕ)) (S : System) (state : State) → Stands K codes S state → IsDisputed state → Impossible K (system_under K codes S) (blame_in state (length S.rows))
 blame_impossible K codes S Gathering stand e = absurd (let z : ◌≡◌ {A = ℕ} 1 3 = e in omega arith)
 blame_impossible K codes S (Settled minutes) stand e = absurd (let z : ◌≡◌ {A = ℕ} 2 3 = e in omega arith)
 blame_impossible K codes S (Disputed dispute) stand e = stand.blamed
@@ -85,15 +85,24 @@ module _ (F : Lawful) (m : ℕ) (calls : Use) (b : Contents) (had : Had F.ops m 
             subst (λ r. Satisfies F.ops r (choice minutes)) there.1 (stand.satisfied f.number there.0);
       }
 
-  shown_fits : (state : State) → Stands F.ops b.codes b.system state → (c code : ℕ) → shown_in state b.system.width c ≡ Some code → (x : ℕ → ℕ) × IsChoice F.ops m x × ((d : ℕ) → d < m → shown_in state b.system.width d ≡ Some (x d)) × Fits F.ops calls x
-  shown_fits Gathering stand c code e = absurd (none-some code e)
-  shown_fits (Disputed dispute) stand c code e = absurd (none-some code e)
-  shown_fits (Settled minutes) stand c code e = (
+  -- a choice of all minutes that is shown in this state, and fits
+  abbrev Shows : State → Type 0
+  Shows state = (x : ℕ → ℕ) × IsChoice F.ops m x × ((d : ℕ) → d < m → shown_in state b.system.width d ≡ Some (x d)) × Fits F.ops calls x
+
+  settled_fits : (state : State) → Stands F.ops b.codes b.system state → IsSettled state → Shows state
+  settled_fits Gathering stand e = absurd (let z : ◌≡◌ {A = ℕ} 1 2 = e in omega arith)
+  settled_fits (Disputed dispute) stand e = absurd (let z : ◌≡◌ {A = ℕ} 3 2 = e in omega arith)
+  settled_fits (Settled minutes) stand e = (
     choice minutes,
     λ d h. stand.below d (omega (arith, had.width)),
     λ d h. shown_inside minutes stand d (omega (arith, had.width)),
     minutes_fit minutes stand,
   )
+
+  shown_fits : (state : State) → Stands F.ops b.codes b.system state → (c code : ℕ) → shown_in state b.system.width c ≡ Some code → Shows state
+  shown_fits Gathering stand c code e = absurd (none-some code e)
+  shown_fits (Disputed dispute) stand c code e = absurd (none-some code e)
+  shown_fits (Settled minutes) stand c code e = settled_fits (Settled minutes) stand refl
 
   none_fits : (state : State) → Stands F.ops b.codes b.system state → IsDisputed state → (x : ℕ → ℕ) → IsChoice F.ops m x → ¬ Fits F.ops calls x
   none_fits Gathering stand e x chosen fits = absurd (let z : ◌≡◌ {A = ℕ} 1 3 = e in omega arith)
@@ -101,4 +110,4 @@ module _ (F : Lawful) (m : ℕ) (calls : Use) (b : Contents) (had : Had F.ops m 
   none_fits (Disputed dispute) stand e x chosen fits = stand.refuted x (under_fits x fits)
 
   pub safe : Stands F.ops b.codes b.system b.state → Safe F.ops m calls b
-  safe stand = record { shown = shown_fits b.state stand; disputed = none_fits b.state stand; settles = had.settles }
+  safe stand = record { settled = settled_fits b.state stand; shown = shown_fits b.state stand; disputed = none_fits b.state stand; settles = had.settles }

@@ -3,5 +3,4 @@ mod Changes
 mod Settling
 mod Keeping
 mod Ordered
-mod Numbers
 mod Apart

@@ -1,13 +1,13 @@
 -- A block refuses in order. Assumes nothing.
-use Rattle.std.proofs.Common.{◌≡◌, ℕ, ◌<◌, ◌≤◌, ◌==◌, Bool, true, false, not, IsTrue, length, Option, Result, get_or, nat_le, nat_lt, sym, refl, subst, ◌∙◌, arith, true≢false}
+use Rattle.std.proofs.Common.{[], ◌≡◌, ℕ, ◌<◌, ◌≤◌, ◌==◌, Bool, true, false, not, IsTrue, length, Option, Result, get_or, nat_le, nat_lt, sym, refl, subst, ◌∙◌, arith, true≢false}
 use Rattle.std.specs.Option.{IsSome, is_some}
-use Rattle.std.proofs.lemmas.Bool.{leb-true, leb-false, le-leb, ltb-true, ltb-false, eqb-true, eqb-false}
+use Rattle.std.proofs.lemmas.Bool.{leb-true, le-leb, ltb-true, ltb-false, eqb-true, eqb-false}
 use Rattle.field.specs.Operations.{Operations}
 use Rattle.frame.specs.Refusals.{RefusalCase}
 use Rattle.frame.specs.Orders.{Order, AtStart, KeepsOrder, when}
 use Rattle.frame.proofs.Orders.{Finds, Passes, accepted, refused_first, finds_when, finds_position, finds_same}
 use Rattle.rows.specs.Systems.{Row}
-use Rattle.rows.proofs.Beyond.{finds_beyond}
+use Rattle.rows.proofs.Beyond.{finds_beyond, finds_full}
 use Rattle.notes.specs.Notes.{noted_code, noted_count}
 use Rattle.solver.specs.declared.spaces.TheConstants.{WORK_WORDS}
 use Rattle.solver.specs.Outcomes.{Case}
@@ -25,7 +25,7 @@ finds_disputed : (s : State) → Finds (AtStart (IsDisputed s)) (when (is_disput
 finds_disputed s = finds_when (IsDisputed s) (is_disputed s) (eqb-true (state_case s).number 3) (eqb-false (state_case s).number 3)
 
 finds_at_most : (m c : ℕ) → Finds (AtStart (m ≤ c)) (when (nat_le m c))
-finds_at_most m c = finds_when (m ≤ c) (nat_le m c) (leb-true m c) (λ e beyond. let below = leb-false m c e in omega arith)
+finds_at_most m c = finds_full 0 c m []
 
 finds_noted : (o : Option ℕ) → Finds (AtStart (IsSome o)) (when (is_some o))
 finds_noted o = finds_when (IsSome o) (is_some o) (λ e. e) (λ e some. true≢false (sym some ∙ e))

@@ -24,17 +24,17 @@ use Rattle.solver.specs.Scouts.{ScoutMeaning}
 use Rattle.solver.specs.Runs.{Exchange, Ran, list_of, last_codes, Writes}
 use Rattle.solver.specs.Slices.{IsVector}
 use Rattle.solver.specs.Laws.{Settles, RunLaws, SolvedLaws, Impossible}
-use Rattle.solver.proofs.Filling.{list_of_values, values_hold, values_same}
-use Rattle.receiver.specs.Stages.{shown_in}
+use Rattle.solver.proofs.Filling.{list_of_values, values_hold}
+use Rattle.receiver.specs.Stages.{shown_in, blame_in}
 use Rattle.receiver.proofs.Held.{shown_inside}
+use Rattle.receiver.specs.declared.stages.State.{State}
 use Rattle.receiver.specs.declared.stages.State.TheVariants.{Settled, Disputed}
 use Rattle.receiver.specs.Settlements.{solved_as, settlement_of, IsWhole}
-use Rattle.receiver.specs.declared.stages.Dispute.{Dispute}
-use Rattle.receiver.specs.Stands.{MinutesStand, blame_in, Stands}
-use Rattle.receiver.specs.Contents.{Contents, rows_shown, no_run, run_of, minutes_found, state_left, state_found}
+use Rattle.receiver.specs.Stands.{MinutesStand, Stands}
+use Rattle.receiver.specs.Contents.{Contents, rows_under_notes, no_run, run_of, state_after}
 
 -- the run of a settle is the one that settles
-pub run_is : {X : Type 0} (K : Operations) (b : Contents) (M : ScoutMeaning X) (from to : X) (f f' : Findings) (o : Outcome) (s : Settles K (rows_shown K b) M from to f f' o) → run_of K b M from ≡ s.ran
+pub run_is : {X : Type 0} (K : Operations) (b : Contents) (M : ScoutMeaning X) (from to : X) (f f' : Findings) (o : Outcome) (s : Settles K (rows_under_notes K b) M from to f f' o) → run_of K b M from ≡ s.ran
 unfolding run_of
 run_is K b M from to f f' o s = ap (λ r. unwrap_or r (no_run from)) s.defined
 
@@ -62,39 +62,47 @@ module _ (o : Case) (noted width : ℕ) where
       let first : (extent_of (slice_index o.values 0) noted width).number ≡ 1 = sym (ap (λ (o : Case). slice_index o.values 0) told) ∙ whole.1 in
       eqb-true (slice_index o.values 0 + noted) width (extent_adds_up (slice_index o.values 0 + noted == width) first)
 
+-- the state after a run that ended so, from what stands in the record
+abbrev pub left_state : List (Option ℕ) → Case → Findings → State
+left_state codes o f = state_after codes o (choice f.minutes) (choice f.blame)
+
 -- a record of zeros, filled at its first places, holds those values and no others
 module _ (codes : List ℕ) (n : ℕ) (f g : List ℕ) (zero : IsVector n (λ _. 0) f) (filled : Filled (length codes) (choice codes) f g) where
-  filled_on : (c : ℕ) → c < n → choice g c ≡ choice codes c
-  filled_on c h =
-      elim (cases_lt c (length codes)) [
-        | inl inside ↦ filled.done c inside
-        | inr beyond ↦ filled.kept c (omega arith) ∙ zero.each c h ∙ sym (get_or_past codes c 0 (omega arith))
+  zero_at : (c : ℕ) → choice f c ≡ 0
+  zero_at c =
+      elim (cases_lt c n) [
+        | inl inside ↦ zero.each c inside
+        | inr beyond ↦ get_or_past f c 0 (omega (arith, zero.long))
       ]
 
-  filled_long : length g ≡ n
-  filled_long = filled.long ∙ zero.long
+  filled_at : (c : ℕ) → choice g c ≡ choice codes c
+  filled_at c =
+      elim (cases_lt c (length codes)) [
+        | inl inside ↦ filled.done c inside
+        | inr beyond ↦ filled.kept c (omega arith) ∙ zero_at c ∙ sym (get_or_past codes c 0 (omega arith))
+      ]
 
-  filled_list : g ≡ list_of n (choice codes)
-  filled_list = list_of_values n (choice codes) g (record { long = filled_long; each = filled_on })
+  filled_with : choice g ≡ choice codes
+  filled_with = fun_ext filled_at
 
--- the state after a run, from what stands in the record, is the one that the run says
+-- it is the one that the run says
 module _ (codes : List (Option ℕ)) (o : Case) (exchanges : List Exchange) (f f' : Findings) (minutes : IsVector MOST_MINUTES (λ _. 0) f.minutes) (blame : IsVector MOST_ROWS (λ _. 0) f.blame) (writes : Writes o exchanges f f') where
-  minutes_same : IsSolved o → list_of MOST_MINUTES (put_in codes (choice f'.minutes)) ≡ minutes_found codes exchanges
-  minutes_same solved =
-      let last = last_codes exchanges in
-      values_same MOST_MINUTES MOST_MINUTES (put_in codes (choice f'.minutes)) (put_in codes (choice last)) refl
-      (λ c h. ap (unwrap_or (noted_code codes c)) (filled_on last MOST_MINUTES f.minutes f'.minutes minutes (writes.minutes solved).0 c h))
+  abbrev last : ℕ → ℕ
+  last = choice (last_codes exchanges)
 
-  blame_same : IsContradiction o → f'.blame ≡ list_of MOST_ROWS (choice (last_codes exchanges))
-  blame_same contradiction = filled_list (last_codes exchanges) MOST_ROWS f.blame f'.blame blame (writes.blame contradiction).1
+  pub minutes_same : IsSolved o → choice f'.minutes ≡ last
+  minutes_same solved = filled_with (last_codes exchanges) MOST_MINUTES f.minutes f'.minutes minutes (writes.minutes solved).0
 
-  pub state_same : state_left codes o f' ≡ state_found codes o exchanges
+  pub blame_same : IsContradiction o → choice f'.blame ≡ last
+  blame_same contradiction = filled_with (last_codes exchanges) MOST_ROWS f.blame f'.blame blame (writes.blame contradiction).1
+
+  pub state_same : left_state codes o f' ≡ state_after codes o last last
   state_same =
       elim (cases_eq o.number 1) [
-        | inl solved ↦ rw (eq-eqb o.number 1 solved) (ap Settled (minutes_same solved))
+        | inl solved ↦ rw (eq-eqb o.number 1 solved) (ap (λ x. Settled (list_of MOST_MINUTES (put_in codes x))) (minutes_same solved))
         | inr unsolved ↦
             elim (cases_eq o.number 2) [
-              | inl contradiction ↦ rw (ne_eqb o.number 1 unsolved, eq-eqb o.number 2 contradiction) (ap (λ u. Disputed (record { blame = u; slip_out = false })) (blame_same contradiction))
+              | inl contradiction ↦ rw (ne_eqb o.number 1 unsolved, eq-eqb o.number 2 contradiction) (ap (λ u. Disputed (record { blame = list_of MOST_ROWS u; slip_out = false })) (blame_same contradiction))
               | inr failed ↦ rw (ne_eqb o.number 1 unsolved, ne_eqb o.number 2 failed) refl
             ]
       ]
@@ -111,16 +119,22 @@ module _ (F : Lawful) (S : System) (u v : ℕ → ℕ) (same : (i : ℕ) → i <
   )
 
 -- u as it is blamed
-blamed_inside : (dispute : Dispute) (n : ℕ) → n ≤ length dispute.blame → (i : ℕ) → i < n → blame_in dispute n i ≡ choice dispute.blame i
-blamed_inside dispute n long i h =
-    ap (λ t. unwrap_or (cond t (slice_get dispute.blame i) None) 0) (lt-ltb i n h)
-    ∙ ap (λ o. unwrap_or o 0) (slice_get-get_or dispute.blame i 0 (omega (arith, long)))
+blamed_inside : (u : ℕ → ℕ) (n : ℕ) → n ≤ MOST_ROWS → (i : ℕ) → i < n → blame_in (Disputed (record { blame = list_of MOST_ROWS u; slip_out = false })) n i ≡ u i
+blamed_inside u n few i h =
+    let values = values_hold MOST_ROWS u in
+    ap (λ t. unwrap_or (cond t (slice_get (list_of MOST_ROWS u) i) None) 0) (lt-ltb i n h)
+    ∙ ap (λ o. unwrap_or o 0) (slice_get-get_or (list_of MOST_ROWS u) i 0 (omega (arith, few, values.long)))
+    ∙ values.each i (omega (arith, few))
 
 -- the noted codes put into all minutes of a record
 pub put_list : (codes : List (Option ℕ)) (f : Findings) (xs : List ℕ) → Filled (length f.minutes) (put_in codes (choice f.minutes)) f.minutes xs → xs ≡ list_of MOST_MINUTES (put_in codes (choice f.minutes))
 put_list codes f xs filled =
     list_of_values MOST_MINUTES (put_in codes (choice f.minutes)) xs
     (record { long = filled.long ∙ f.minutes_long; each = λ c h. filled.done c (omega (arith, f.minutes_long)) })
+
+-- u as the record holds it
+pub blame_list : (f : Findings) → f.blame ≡ list_of MOST_ROWS (choice f.blame)
+blame_list f = list_of_values MOST_ROWS (choice f.blame) f.blame (record { long = f.blame_long; each = λ c h. refl })
 
 -- what a run leaves stands
 module _ (F : Lawful) (codes : List (Option ℕ)) (S : System) (fit : NotesFit F.ops S.width codes) (few : S.width ≤ MOST_MINUTES) (rows : length S.rows ≤ MOST_ROWS) where
@@ -161,7 +175,7 @@ module _ (F : Lawful) (codes : List (Option ℕ)) (S : System) (fit : NotesFit F
           satisfied = subst (SatisfiesAll F.ops S) (sym (fun_ext minute_at)) ((all_satisfied F codes x S).0 satisfied);
         }
 
-  pub state_stands : {X : Type 0} (M : ScoutMeaning X) (from : X) (r : Ran X) (o : Case) (f : Findings) → o ≡ r.outcome → RunLaws F.ops (system_under F.ops codes S) M from r (choice f.minutes) (choice f.blame) → Stands F.ops codes S (state_left codes o f)
+  pub state_stands : {X : Type 0} (M : ScoutMeaning X) (from : X) (r : Ran X) (o : Case) (f : Findings) → o ≡ r.outcome → RunLaws F.ops (system_under F.ops codes S) M from r (choice f.minutes) (choice f.blame) → Stands F.ops codes S (left_state codes o f)
   state_stands M from r o f same laws =
       let long = length-map S.rows (row_under F.ops codes) in
       elim (cases_eq o.number 1) [
@@ -175,7 +189,7 @@ module _ (F : Lawful) (codes : List (Option ℕ)) (S : System) (fit : NotesFit F
                   let contradiction = laws.contradiction (sym (ap (λ (o : Case). o.number) same) ∙ number) in
                   rw (ne_eqb o.number 1 unsolved, eq-eqb o.number 2 number)
                   (record {
-                    blamed = impossible_same F (system_under F.ops codes S) (choice f.blame) _ (λ i h. sym (blamed_inside (record { blame = f.blame; slip_out = false }) (length S.rows) (omega (arith, rows, f.blame_long)) i (omega (arith, long)))) contradiction.blamed;
+                    blamed = impossible_same F (system_under F.ops codes S) (choice f.blame) _ (λ i h. sym (blamed_inside (choice f.blame) (length S.rows) rows i (omega (arith, long)))) contradiction.blamed;
                     refuted = contradiction.refuted;
                   })
               | inr failed ↦ rw (ne_eqb o.number 1 unsolved, ne_eqb o.number 2 failed) tt
@@ -198,11 +212,11 @@ module _ (F : Lawful) (codes : List (Option ℕ)) (S : System) (fit : NotesFit F
           complete s.ran.pivot_columns (choice f'.minutes) s.laws.pivots.columns
           (omega (arith, whole_adds_up s.ran.outcome (noted_count codes) S.width whole, pivots, s.laws.pivots.as_many)) solved.determined
 
-      whole_shown : (c : ℕ) → c < S.width → shown_in (state_left codes s.ran.outcome f') S.width c ≡ Some (put_in codes (choice f'.minutes) c)
+      whole_shown : (c : ℕ) → c < S.width → shown_in (left_state codes s.ran.outcome f') S.width c ≡ Some (put_in codes (choice f'.minutes) c)
       whole_shown c h =
           rw (eq-eqb s.ran.outcome.number 1 (whole_solved s.ran.outcome (noted_count codes) S.width whole))
           (shown_inside (all_minutes (choice f'.minutes) solved.codes beyond_minutes) (minutes_stand (choice f'.minutes) solved.codes beyond_minutes solved.satisfied) c h
           ∙ ap Some (minute_at (choice f'.minutes) solved.codes beyond_minutes c))
 
-      pub only_shown : (y : ℕ → ℕ) → SatisfiesAll F.ops S y → HasNotes F.ops codes y → (c : ℕ) → c < S.width → y c < F.ops.q → shown_in (state_left codes s.ran.outcome f') S.width c ≡ Some (y c)
+      pub only_shown : (y : ℕ → ℕ) → SatisfiesAll F.ops S y → HasNotes F.ops codes y → (c : ℕ) → c < S.width → y c < F.ops.q → shown_in (left_state codes s.ran.outcome f') S.width c ≡ Some (y c)
       only_shown y satisfied noted c h code = whole_shown c h ∙ ap Some (sym (only y satisfied noted c h) ∙ mod-eq_of_lt code)

@@ -3,7 +3,6 @@ use Rattle.std.specs.Prelude.{◌≡◌, ℕ, ◌<◌, ◌≤◌, ◌++◌, ◌&
 use Rattle.std.specs.Prelude.{Ok, IsTrue, Option, Result, ◌==◌, nat_le, nat_lt, slice_index}
 use Rattle.std.specs.List.{position_from}
 use Rattle.field.specs.Operations.{Operations}
-use Rattle.frame.specs.declared.terms.Term.{Term}
 use Rattle.frame.specs.Refusals.{RefusalCase}
 use Rattle.frame.specs.Orders.{Order, no_rule, rule, AtStart, refuse, when}
 use Rattle.rows.specs.Systems.{Row}
@@ -15,11 +14,16 @@ use Rattle.receiver.specs.Stages.{IsDisputed, is_disputed, slip_out, slip_due}
 use Rattle.receiver.specs.Settlements.{settlement_of}
 use Rattle.receiver.specs.Contents.{Contents, blame_of}
 
+-- refused in a dispute, by 1
+abbrev pub undisputed : Contents → Result (Unit {0}) RefusalCase
+undisputed b = refuse 1 (when (is_disputed b.state)) (Ok tt)
+
 -- the answer to a note: 1 in a dispute, and then as under any notes
 abbrev pub answer_to_note : Operations → Contents → ℕ → ℕ → Result (Unit {0}) RefusalCase
 answer_to_note K b c code =
     refuse 1 (when (is_disputed b.state)) (note_answer K b.system.width b.codes c code)
 
+-- the order in which a note is refused: 1 in a dispute, and then as under any notes
 abbrev pub order_of_note : Operations → Contents → ℕ → ℕ → Order
 order_of_note K b c code =
     rule 1 (AtStart (IsDisputed b.state)) (note_order K b.system.width b.codes c code)
@@ -28,14 +32,11 @@ order_of_note K b c code =
 abbrev pub numbers_of : Row → List ℕ
 numbers_of r = map (λ t. t.weight) r.terms ++ (r.sum ∷ [])
 
--- the number of the first term, counted from `at`, whose weight is no code
-abbrev pub first_wrong_weight : Operations → ℕ → List Term → Option ℕ
-first_wrong_weight K at ts = position_from (λ t. nat_le K.q t.weight) at ts
-
 -- the first of a frame's numbers that is no code
 abbrev pub first_no_code : Operations → Row → Option ℕ
 first_no_code K r = position_from (λ a. nat_le K.q a) 0 (numbers_of r)
 
+-- the number at a place is no code
 abbrev pub NoCode : Operations → Row → ℕ → Type 0
 NoCode K r k = (k < length (numbers_of r)) × (K.q ≤ slice_index (numbers_of r) k)
 
@@ -62,6 +63,7 @@ answer_to_settle b words outcome =
     (refuse 6 (when (nat_lt words WORK_WORDS))
     (Ok (settlement_of outcome (noted_count b.codes) b.system.width)))
 
+-- the order in which a settle is refused: 1 in a dispute, 6 for too little work space
 abbrev pub order_of_settle : Contents → ℕ → Order
 order_of_settle b words =
     rule 1 (AtStart (IsDisputed b.state)) (rule 6 (AtStart (words < WORK_WORDS)) no_rule)
@@ -82,6 +84,7 @@ answer_with_slip b name = refuse 8 (when (not (takes_back b name))) (Ok tt)
 abbrev pub is_unblamed : Contents → ℕ → Bool
 is_unblamed b i = blame_of b i == 0
 
+-- the answer to a strike
 abbrev pub answer_to_strike : Contents → ℕ → ℕ → Result (Unit {0}) RefusalCase
 answer_to_strike b name i =
     refuse 8 (when (not (takes_back b name))) (refuse 9 (when (is_unblamed b i)) (Ok tt))
@@ -93,5 +96,6 @@ order_of_strike b name i =
     rule 8 (AtStart (¬ IsTrue (takes_back b name)))
     (rule 9 (AtStart (blame_of b i ≡ 0)) no_rule)
 
+-- the answer to a clear
 abbrev pub answer_to_clear : Contents → Result (Unit {0}) RefusalCase
-answer_to_clear b = refuse 1 (when (is_disputed b.state)) (Ok tt)
+answer_to_clear = undisputed

@@ -7,17 +7,19 @@ use Rattle.receiver.specs.declared.blocks.Block.{Block}
 use Rattle.notes.specs.Layers.{codes_in, below, system_below}
 use Rattle.receiver.specs.Contents.{Contents}
 
--- its rows with their notes, and its ledger
+-- a block's rows with their notes
 abbrev pub noted_in :
     {X Y : Type 0} {F : field.Ghosts X} {L : ledgers.Ghosts Y} {R : rows.Ghosts Y} →
     Block X Y F L R → Noted X Y F R
 noted_in block = block.noted
 
+-- its ledger
 abbrev pub ledger_in :
     {X Y : Type 0} {F : field.Ghosts X} {L : ledgers.Ghosts Y} {R : rows.Ghosts Y} →
     Block X Y F L R → Y
 ledger_in block = below block.noted
 
+-- all that it holds
 abbrev pub contents :
     {X Y : Type 0} {F : field.Ghosts X} {L : ledgers.Ghosts Y} {R : rows.Ghosts Y} →
     Block X Y F L R → Contents

@@ -1,5 +1,5 @@
 -- What a block holds, and what its calls leave. Assumes nothing.
-use Rattle.std.specs.Prelude.{◌≡◌, ℕ, cond, false, Bool, List, [], Some, Ok, Err}
+use Rattle.std.specs.Prelude.{◌≡◌, ℕ, cond, true, false, List, [], Some, Ok, Err}
 use Rattle.std.specs.Prelude.{Option, Result, ◌==◌, length, slice_set}
 use Rattle.std.specs.Option.{unwrap_or}
 use Rattle.field.specs.Operations.{Operations}
@@ -8,17 +8,15 @@ use Rattle.rows.specs.Systems.{Row, System}
 use Rattle.rows.specs.Values.{choice}
 use Rattle.rows.specs.Ledgers.{appended, struck, cleared}
 use Rattle.notes.specs.Notes.{no_codes, noted_code, put_in, system_under}
-use Rattle.solver.specs.declared.findings.Findings.{Findings}
 use Rattle.solver.specs.Outcomes.{Case}
 use Rattle.solver.specs.Scouts.{ScoutMeaning}
-use Rattle.solver.specs.Runs.{Exchange, Ran, list_of, last_codes, whole_run}
-use Rattle.receiver.specs.declared.stages.Dispute.{Dispute}
+use Rattle.solver.specs.Runs.{Ran, list_of, last_codes, whole_run}
 use Rattle.receiver.specs.declared.stages.State.{State}
 use Rattle.receiver.specs.declared.stages.State.TheVariants.{Gathering, Settled, Disputed}
-use Rattle.receiver.specs.Stages.{IsSettled, shown_in, blamed_in, slip_moved}
+use Rattle.receiver.specs.Stages.{IsSettled, shown_in, blamed_in, blame_in, slip_moved}
 
--- a block's name; its stage with what the last settle found; the codes that are noted; the rows in
--- its ledger; the ledger's limit, and its list of limits
+-- what a block holds: its name; its stage with what the last settle found; the codes that are noted;
+-- the rows in its ledger; the ledger's limit, and its list of limits
 pub record Contents : Type 0 where
   pub name : ℕ
   pub state : State
@@ -28,10 +26,10 @@ pub record Contents : Type 0 where
   pub limits : List ℕ
 
 -- the rows that a settle is about: those in the ledger, under the notes
-abbrev pub rows_shown : Operations → Contents → System
-rows_shown K b = system_under K b.codes b.system
+abbrev pub rows_under_notes : Operations → Contents → System
+rows_under_notes K b = system_under K b.codes b.system
 
--- what is shown at a minute
+-- what `show` gives at a minute
 abbrev pub shown_at : Contents → ℕ → Option ℕ
 shown_at b c = shown_in b.state b.system.width c
 
@@ -40,12 +38,13 @@ abbrev pub NotesShown : Contents → Type 0
 NotesShown b =
     IsSettled b.state → (c code : ℕ) → noted_code b.codes c ≡ Some code → shown_at b c ≡ Some code
 
--- the number u of a row, and of every row, 0 where there is none
+-- what `blame` gives at a row
 abbrev pub blamed_at : Contents → ℕ → Option ℕ
 blamed_at b i = blamed_in b.state (length b.system.rows) i
 
+-- the same, with 0 for none
 abbrev pub blame_of : Contents → ℕ → ℕ
-blame_of b i = unwrap_or (blamed_at b i) 0
+blame_of b = blame_in b.state (length b.system.rows)
 
 -- what a call leaves: what acceptance makes, and after a refusal what was there
 abbrev pub left_by : {X A E : Type 0} → Result A E → X → X → X
@@ -80,11 +79,14 @@ with_row b r = record b { state = Gathering; system = appended b.system r }
 abbrev pub without_row : Contents → ℕ → Contents
 without_row b i = record b { state = Gathering; system = struck b.system i }
 
--- the slip handed out, or back
-abbrev pub with_slip : Contents → Bool → Contents
-with_slip b out = record b { state = slip_moved out b.state }
+-- the slip handed out, and taken back; the rest stays
+abbrev pub handed_out : Contents → Contents
+handed_out b = record b { state = slip_moved true b.state }
 
--- the run that is told where there is none; there always is one
+abbrev pub taken_back : Contents → Contents
+taken_back b = record b { state = slip_moved false b.state }
+
+-- stands where the definition gives no run, which never happens (`RunTold.defined`)
 abbrev pub no_run : {X : Type 0} → X → Ran X
 no_run scout =
     record {
@@ -97,31 +99,22 @@ no_run scout =
 
 -- the run of a settle
 unfoldable pub run_of : {X : Type 0} → Operations → Contents → ScoutMeaning X → X → Ran X
-run_of K b M scout = unwrap_or (whole_run K (rows_shown K b) M scout) (no_run scout)
+run_of K b M scout = unwrap_or (whole_run K (rows_under_notes K b) M scout) (no_run scout)
 
--- the minutes of a solved run: the codes of its last question, with the noted ones put in
-abbrev pub minutes_found : List (Option ℕ) → List Exchange → List ℕ
-minutes_found codes exchanges = list_of MOST_MINUTES (put_in codes (choice (last_codes exchanges)))
-
--- the dispute of a contradiction: u, the codes of its last question, and no slip out
-abbrev pub dispute_found : List Exchange → Dispute
-dispute_found exchanges =
-    record { blame = list_of MOST_ROWS (choice (last_codes exchanges)); slip_out = false }
-
--- what a run that ended so leaves, from what it found
-abbrev pub state_left : List (Option ℕ) → Case → Findings → State
-state_left codes outcome f =
-    cond (outcome.number == 1)
-    (Settled (list_of MOST_MINUTES (put_in codes (choice f.minutes))))
+-- the state after a run that ended so, with the minutes x or the blame u: solved, settled with x and
+-- the noted codes put in; a contradiction, disputed with u and no slip out; failed, gathering
+abbrev pub state_after : List (Option ℕ) → Case → (x u : ℕ → ℕ) → State
+state_after codes outcome x u =
+    cond (outcome.number == 1) (Settled (list_of MOST_MINUTES (put_in codes x)))
     (cond (outcome.number == 2)
-    (Disputed (record { blame = f.blame; slip_out = false }))
+    (Disputed (record { blame = list_of MOST_ROWS u; slip_out = false }))
     Gathering)
 
--- solved: settled; a contradiction: disputed; failed: gathering
-abbrev pub state_found : List (Option ℕ) → Case → List Exchange → State
-state_found codes outcome exchanges =
-    cond (outcome.number == 1) (Settled (minutes_found codes exchanges))
-    (cond (outcome.number == 2) (Disputed (dispute_found exchanges)) Gathering)
+-- what a run found: the codes of its last question, which are x when it is solved, and u on a
+-- contradiction
+abbrev pub found_by : {X : Type 0} → Ran X → ℕ → ℕ
+found_by r = choice (last_codes r.exchanges)
 
+-- what a settle leaves, by its run
 abbrev pub with_run : {X : Type 0} → Contents → Ran X → Contents
-with_run b r = record b { state = state_found b.codes r.outcome r.exchanges }
+with_run b r = record b { state = state_after b.codes r.outcome (found_by r) (found_by r) }

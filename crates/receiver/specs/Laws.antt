@@ -1,4 +1,8 @@
--- The law of every use: nothing that a block shows or disputes is wrong. Assumes nothing.
+-- The law of every use: nothing that a block shows or disputes is wrong. A call of a block promises
+-- `KeepsSafe K call b b'`, for the call with its arguments and its answer, and for what the block holds
+-- before and after it: whatever list of calls it had had since it was made (`Had`), it has now had
+-- these and this one, and nothing that it says is wrong (`Safe`). `new` promises both of no calls, so
+-- that they hold after every list of calls. Assumes nothing.
 use Rattle.std.specs.Prelude.{◌≡◌, ℕ, ◌<◌, ◌⊎◌, ◌↔◌, ⊤, List, [], ◌∷◌, length, Some, Ok, Option}
 use Rattle.std.specs.Prelude.{slice_index_or}
 use Rattle.std.specs.List.{Contains}
@@ -10,8 +14,8 @@ use Rattle.solver.specs.Outcomes.{IsFailed}
 use Rattle.solver.specs.Scouts.{ScoutMeaning}
 use Rattle.solver.specs.Runs.{whole_run}
 use Rattle.solver.specs.Laws.{RunLaws, SomeFalse}
-use Rattle.receiver.specs.Stages.{IsDisputed}
-use Rattle.receiver.specs.Contents.{Contents, rows_shown, shown_at, run_of}
+use Rattle.receiver.specs.Stages.{IsSettled, IsDisputed}
+use Rattle.receiver.specs.Contents.{Contents, rows_under_notes, shown_at, run_of, found_by}
 use Rattle.receiver.specs.Uses.{Call, settle_call, Use, Reading, Taken, readings, frames}
 use Rattle.receiver.specs.Uses.{codes_of, rows_of, system_of}
 
@@ -37,13 +41,15 @@ ToldTruth K m (settle_call exchanges (Ok outcome)) before =
     IsFailed outcome ↔ SomeFalse K (system_under K (codes_of before) (system_of m before)) exchanges
 ToldTruth K m call before = ⊤
 
+-- and so did each settle before it
 abbrev pub AllToldTruth : Operations → ℕ → Use → Type 0
 AllToldTruth K m [] = ⊤
 AllToldTruth K m (call ∷ before) = ToldTruth K m call before × AllToldTruth K m before
 
 -- nothing that a block of m minutes shows or disputes after a use is wrong
 pub record Safe (K : Operations) (m : ℕ) (calls : Use) (b : Contents) : Type 0 where
-  -- where it shows anything, what it shows fits
+  -- settled, it shows every minute, and what it shows fits; and what it shows in any stage fits
+  pub settled : IsSettled b.state → ShowsFit K m calls b
   pub shown : (c code : ℕ) → shown_at b c ≡ Some code → ShowsFit K m calls b
   -- where it is disputed, no choice fits
   pub disputed : IsDisputed b.state → (x : ℕ → ℕ) → IsChoice K m x → ¬ Fits K calls x
@@ -64,8 +70,8 @@ pub record RowsAre (rows : List Row) (fs : List Taken) : Type 0 where
       (slice_index_or rows i empty_row ≡ empty_row)
       ⊎ Contains fs (record { number = i; row = slice_index_or rows i empty_row })
 
--- a block of m minutes has had a use since it was made: it holds the readings and the frames that
--- the use says, and each of its settles told the truth
+-- a block of m minutes has had a use since it was made: it holds the notes and the rows that the use
+-- says, these are its readings and its frames, and each of its settles told the truth
 pub record Had (K : Operations) (m : ℕ) (calls : Use) (b : Contents) : Type 0 where
   pub width : b.system.width ≡ m
   pub codes : b.codes ≡ codes_of calls
@@ -75,17 +81,17 @@ pub record Had (K : Operations) (m : ℕ) (calls : Use) (b : Contents) : Type 0 
   pub settles : AllToldTruth K m calls
 
 -- a block that has had a use is safe
-abbrev pub Stays : Operations → Contents → Type 0
-Stays K b = (m : ℕ) (calls : Use) → Had K m calls b → Safe K m calls b
+abbrev pub StaysSafe : Operations → Contents → Type 0
+StaysSafe K b = (m : ℕ) (calls : Use) → Had K m calls b → Safe K m calls b
 
 -- after a call, a block that had had a use has had that use and the call, and is safe
-abbrev pub Keeps : Operations → Call → Contents → Contents → Type 0
-Keeps K call b b' =
+abbrev pub KeepsSafe : Operations → Call → Contents → Contents → Type 0
+KeepsSafe K call b b' =
     (m : ℕ) (calls : Use) → Had K m calls b → Had K m (call ∷ calls) b' × Safe K m (call ∷ calls) b'
 
 -- a block just made has had no calls, and is safe
-abbrev pub Begins : Operations → Contents → Type 0
-Begins K b = Had K b.system.width [] b × Safe K b.system.width [] b
+abbrev pub BeginsSafe : Operations → Contents → Type 0
+BeginsSafe K b = Had K b.system.width [] b × Safe K b.system.width [] b
 
 -- the choice shown is the only one that fits
 abbrev pub OnlyFit : Operations → ℕ → Use → Contents → Type 0
@@ -96,9 +102,10 @@ OnlyFit K m calls b =
 abbrev pub LeavesOne : Operations → Contents → Contents → Type 0
 LeavesOne K b b' = (m : ℕ) (calls : Use) → Had K m calls b → OnlyFit K m calls b'
 
--- the run of a settle is the one defined; with the minutes x that it found, or the blame u, it
--- keeps the laws of every run
+-- the run of a settle is the one defined; with what it found, the minutes or the blame, it keeps the
+-- laws of every run
 pub record RunTold {X : Type 0} (K : Operations) (b : Contents)
     (M : ScoutMeaning X) (from : X) : Type 0 where
-  pub defined : whole_run K (rows_shown K b) M from ≡ Some (run_of K b M from)
-  pub laws : (x u : ℕ → ℕ) × RunLaws K (rows_shown K b) M from (run_of K b M from) x u
+  pub defined : whole_run K (rows_under_notes K b) M from ≡ Some (run_of K b M from)
+  pub laws : let r = run_of K b M from in
+      RunLaws K (rows_under_notes K b) M from r (found_by r) (found_by r)

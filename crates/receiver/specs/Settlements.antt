@@ -12,6 +12,8 @@ abbrev pub solved_as : Case → Case → Case
 solved_as extent outcome =
     record { number = outcome.number; values = extent.number ∷ outcome.values }
 
+-- solved with the numbers of the extent, of pivots and of questions; contradiction and failed with
+-- the values of the outcome
 abbrev pub settlement_case : Settlement → Case
 settlement_case (Solved extent count) =
     solved_as (extent_case extent) (outcome_case (outcomes.Solved count))

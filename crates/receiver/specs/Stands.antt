@@ -1,6 +1,5 @@
 -- What a block's stage means of its notes and rows. Assumes nothing.
 use Rattle.std.specs.Prelude.{◌≡◌, ℕ, ◌<◌, ◌≤◌, ⊤, List, length, Some, Option}
-use Rattle.std.specs.Option.{unwrap_or}
 use Rattle.field.specs.declared.fields.Field as field
 use Rattle.field.specs.Operations.{Operations}
 use Rattle.rows.specs.declared.reading.Rows as rows
@@ -13,7 +12,7 @@ use Rattle.solver.specs.Laws.{Impossible}
 use Rattle.receiver.specs.declared.stages.Dispute.{Dispute}
 use Rattle.receiver.specs.declared.stages.State.{State}
 use Rattle.receiver.specs.declared.stages.State.TheVariants.{Gathering, Settled, Disputed}
-use Rattle.receiver.specs.Stages.{blamed_in}
+use Rattle.receiver.specs.Stages.{blame_in}
 
 -- the minutes of a settled block are codes, have the noted codes, and satisfy every row
 pub record MinutesStand (K : Operations) (codes : List (Option ℕ)) (S : System)
@@ -23,17 +22,14 @@ pub record MinutesStand (K : Operations) (codes : List (Option ℕ)) (S : System
   pub noted : (c code : ℕ) → noted_code codes c ≡ Some code → choice minutes c ≡ code
   pub satisfied : SatisfiesAll K S (choice minutes)
 
--- u at a row of n rows, 0 where there is no such row
-abbrev pub blame_in : Dispute → ℕ → ℕ → ℕ
-blame_in dispute n i = unwrap_or (blamed_in (Disputed dispute) n i) 0
-
 -- the rows that a disputed block blames are impossible together under the notes, so no minutes
 -- satisfy all rows there
 pub record DisputeStands (K : Operations) (codes : List (Option ℕ)) (S : System)
     (dispute : Dispute) : Type 0 where
-  pub blamed : Impossible K (system_under K codes S) (blame_in dispute (length S.rows))
+  pub blamed : Impossible K (system_under K codes S) (blame_in (Disputed dispute) (length S.rows))
   pub refuted : (y : ℕ → ℕ) → ¬ SatisfiesAll K (system_under K codes S) y
 
+-- what a state means of noted codes and rows: nothing while the block gathers
 abbrev pub Stands : Operations → List (Option ℕ) → System → State → Type 0
 Stands K codes S Gathering = ⊤
 Stands K codes S (Settled minutes) = MinutesStand K codes S minutes

@@ -17,7 +17,7 @@ pub data Call : Type 0 where
   settle_call : List Exchange → Result Case RefusalCase → Call
   slip_call : Result ℕ RefusalCase → Call
   strike_call : (name row : ℕ) → Result (Unit {0}) RefusalCase → Call
-  return_call : (name : ℕ) → Result (Unit {0}) RefusalCase → Call
+  give_back_call : (name : ℕ) → Result (Unit {0}) RefusalCase → Call
   abandon_call : (name : ℕ) → Result (Unit {0}) RefusalCase → Call
   clear_call : Result (Unit {0}) RefusalCase → Call
 
@@ -59,42 +59,45 @@ pub record Taken : Type 0 where
   pub number : ℕ
   pub row : Row
 
--- the readings noted since the last clearing: after a call more, and after a use
+-- readings after a call more
 abbrev pub read_after : Effect → List Reading → List Reading
 read_after (notes c code) rs = record { minute = c; code = code } ∷ rs
 read_after clears rs = []
 read_after other rs = rs
 
+-- the readings noted since the last clearing
 abbrev pub readings : Use → List Reading
 readings = said_by read_after []
 
--- the frames taken since the last clearing and not struck, likewise
+-- frames after a call more
 abbrev pub taken_after : Effect → List Taken → List Taken
 taken_after (takes n r) fs = record { number = n; row = r } ∷ fs
 taken_after (strikes n) fs = filter (λ f. not (f.number == n)) fs
 taken_after clears fs = []
 taken_after other fs = fs
 
+-- the frames taken since the last clearing and not struck
 abbrev pub frames : Use → List Taken
 frames = said_by taken_after []
 
--- the rows of a settle, likewise: the frames taken since the last clearing, in order, a struck one
--- empty
+-- rows after a call more
 abbrev pub rows_after : Effect → List Row → List Row
 rows_after (takes n r) rs = rs ++ (r ∷ [])
 rows_after (strikes n) rs = slice_set rs n empty_row
 rows_after clears rs = []
 rows_after other rs = rs
 
+-- the rows of a settle: the frames taken since the last clearing, in order, a struck one empty
 abbrev pub rows_of : Use → List Row
 rows_of = said_by rows_after []
 
--- the notes of a settle, likewise: the code of each reading at its minute
+-- noted codes after a call more
 abbrev pub codes_after : Effect → List (Option ℕ) → List (Option ℕ)
 codes_after (notes c code) codes = slice_set codes c (Some code)
 codes_after clears codes = no_codes
 codes_after other codes = codes
 
+-- the notes of a settle: the code of each reading noted since the last clearing, at its minute
 abbrev pub codes_of : Use → List (Option ℕ)
 codes_of = said_by codes_after no_codes
 

@@ -10,7 +10,7 @@ use solver::outcomes::{Count, Extent, Failure, Outcome};
 /// How a block's settle ends.
 #[derive(Clone, Copy, PartialEq, Eq, Debug)]
 pub enum Settlement {
-    /// the minutes found fit; whole where no others do
+    /// the minutes found fit; where it is whole, no others do
     Solved(Extent, Count),
     /// no minutes fit
     Contradiction(Count),

@@ -24,7 +24,9 @@ impl Drop for Slip {
 /// A refusal that hands the slip back, unspent.
 #[derive(Drop)]
 pub struct Unspent {
+    /// why the call was refused
     pub refusal: Refusal,
+    /// the slip that came in
     pub slip: Slip,
 }
 

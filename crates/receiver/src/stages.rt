@@ -16,7 +16,7 @@ pub enum Stage {
     Gathering,
     /// it shows the minutes that a settle found
     Settled,
-    /// its frames contradict each other and its readings
+    /// no minutes fit its frames and readings
     Disputed,
 }
 

@@ -58,7 +58,7 @@ returns-clause-scout g c =
     s.scout ∙ sym (ap (λ (r : Ran g.row.S.Denot). r.scout) (run_is g.F.Field.ops (contents c.args.self.now) g.S.Scout.meaning c.args.scout.now c.settle.new.scout c.new-findings.result c.settle.new.findings c.in_ok-outcome.outcome s))
 
 pub returns-clause-run : goal.returns-clause-run
-returns-clause-run g c = run_told (lawful g.F.Field.ops g.met.F.Field.laws) (contents c.args.self.now) c.args.self.now.noted.fits (g.met.L.Rows.formed (below c.args.self.now.noted)) g.S.Scout.meaning c.args.scout.now c.settle.new.scout c.new-findings.result c.settle.new.findings c.in_ok-outcome.outcome c.in_ok-outcome.ensures.settles c.found-self.result c.found-self.ensures
+returns-clause-run g c = run_told (lawful g.F.Field.ops g.met.F.Field.laws) (contents c.args.self.now) c.args.self.now.noted.fits (g.met.L.Rows.formed (below c.args.self.now.noted)) g.S.Scout.meaning c.args.scout.now c.settle.new.scout c.new-findings.result c.settle.new.findings c.in_ok-outcome.outcome c.in_ok-outcome.ensures.settles c.found-self.result c.found-self.ensures c.new-findings.ensures.minutes c.new-findings.ensures.blame
 
 pub returns-clause-gave : goal.returns-clause-gave
 returns-clause-gave g c = run_gave (lawful g.F.Field.ops g.met.F.Field.laws) (contents c.args.self.now) c.args.self.now.noted.fits (g.met.L.Rows.formed (below c.args.self.now.noted)) g.S.Scout.meaning c.args.scout.now c.settle.new.scout c.new-findings.result c.settle.new.findings c.in_ok-outcome.outcome c.in_ok-outcome.ensures.settles c.found-self.result c.found-self.ensures
