@@ -1,9 +1,9 @@
 #!/usr/bin/env python3
-"""A slip is spent once: two programs that break this, tried on a copy, have to be refused by the prover.
+"""A slip is spent once: programs that break this, tried on a copy, have to be refused by the prover.
 
-python3 tools/one_slip.py, at the top of the repository. The first program ends with a slip in hand, the second strikes
-and then abandons with one slip (which does not compile, so it can be no must-fail edit). Ends with status 1 where one of
-them is let through, or is refused for another reason.
+python3 tools/one_slip.py, at the top of the repository. The first program ends with a slip in hand, the second lets a
+refusal go unread, with the slip in it, and the third strikes and then abandons with one slip (which does not compile, so
+it can be no must-fail edit). Ends with status 1 where one of them is let through, or is refused for another reason.
 """
 import pathlib
 import shutil
@@ -15,13 +15,14 @@ FILE = "crates/disputes/src/clients.rt"
 OLD = "    let _abandoned = block.abandon(slip);\n"
 PROGRAMS = {
     "ends with a slip in hand": ("    let _kept = slip;\n", "`drop` requires"),
+    "lets a refused strike go": ("    let _struck = block.strike(slip, 0);\n", "`drop` requires"),
     "strikes and abandons with one slip": ("    let _struck = block.strike(slip, 0);\n" + OLD, "use of moved value: `slip`"),
 }
 
 
 def main():
     here = pathlib.Path(__file__).resolve().parent.parent
-    with tempfile.TemporaryDirectory(dir=here.parent, prefix="one_slip_") as folder:
+    with tempfile.TemporaryDirectory(prefix="one_slip_") as folder:
         copy = pathlib.Path(folder)
         shutil.copy(here / "crates.txt", copy)
         skipped = shutil.ignore_patterns("target", "must-fail")

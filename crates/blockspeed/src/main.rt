@@ -132,6 +132,11 @@ impl Hour {
     }
 }
 
+// A refusal, of which there is none here, as an error of the program.
+fn refused(_refusal: Refusal) -> io::Error {
+    io::Error::from(io::ErrorKind::InvalidData)
+}
+
 // How a settle of the bare table ends.
 fn settle_table<F: Field>(table: &Table, work: &mut [u16]) -> Result<Outcome, Refusal> {
     settle::<F, Table, Scan>(table, &mut Scan, work, &mut Findings::new())
@@ -142,9 +147,7 @@ fn time_table<F: Field>(rt: &impl Runtime, table: &Table, times: u32) -> io::Res
     let mut work = [0; WORK_WORDS];
     let start = Instant::now(rt)?;
     for _ in 0..times {
-        if settle_table::<F>(table, &mut work).is_err() {
-            return Ok(0);
-        }
+        settle_table::<F>(table, &mut work).map_err(refused)?;
     }
     Ok(start.elapsed(rt)?.as_nanos() / u128::from(times.max(1)))
 }
@@ -158,9 +161,7 @@ fn time_block<F: Field>(
     let mut work = [0; WORK_WORDS];
     let start = Instant::now(rt)?;
     for _ in 0..times {
-        if block.settle(&mut Scan, &mut work).is_err() {
-            return Ok(0);
-        }
+        block.settle(&mut Scan, &mut work).map_err(refused)?;
     }
     Ok(start.elapsed(rt)?.as_nanos() / u128::from(times.max(1)))
 }
@@ -169,17 +170,13 @@ fn time_block<F: Field>(
 fn report<F: Field>(rt: &impl Runtime, field: &str, times: Option<u32>) -> io::Result<()> {
     let hour = Hour::new::<F>(&mut Words { state: 1 });
     let mut work = [0; WORK_WORDS];
-    let Ok(table) = hour.table() else {
-        return Ok(());
-    };
+    let table = hour.table().map_err(refused)?;
     match times {
         Some(times) => println!(rt; "{field} table {}", time_table::<F>(rt, &table, times)?)?,
         None => println!(rt; "{field} table {:?}", settle_table::<F>(&table, &mut work))?,
     }
     for noted in NOTED {
-        let Ok(mut block) = hour.block::<F>(noted) else {
-            return Ok(());
-        };
+        let mut block = hour.block::<F>(noted).map_err(refused)?;
         match times {
             Some(times) => {
                 let time = time_block(rt, &mut block, times)?;
