@@ -1,14 +1,14 @@
 -- How the lines of an input grow with it. Assumes nothing.
-use Rattle.std.proofs.Common.{◌≡◌, ℕ, ◌<◌, eqb, List, [], ◌∷◌, ◌++◌, length, take, Ok, Err, vec_items, Result, Vec, sym, refl, ap, ◌∙◌, subst, ⊎_elim, append_assoc, append-nil, arith}
+use Rattle.std.proofs.Common.{◌≡◌, ℕ, ◌<◌, eqb, List, [], ◌∷◌, ◌++◌, length, take, vec_items, Vec, sym, refl, ap, ◌∙◌, subst, ⊎_elim, append_assoc, append-nil, arith}
 use Rattle.std.proofs.lemmas.List.{take_all}
 use Rattle.std.proofs.lemmas.Bool.{eq-eqb, ne_eqb, cond-true, cond-false, cases_eq}
 use Rattle.std.specs.declared.alloc.Global.{Global}
-use Rattle.std.specs.declared.alloc.AllocError.{AllocError}
+use Rattle.lines.specs.Writing.{Full}
 use Rattle.lines.specs.Fields.{Whole, on_first, split}
 use Rattle.lines.proofs.Cuts.{split_last, split_more, split_some}
 use Rattle.framelog.specs.declared.logs.Log.{Log}
 use Rattle.framelog.specs.Machines.{Machine, KnowsFronts}
-use Rattle.framelog.specs.Lines.{unfinished, answered, state_after, Holds, Grows, Keeps, Finishes, AnswersAll}
+use Rattle.framelog.specs.Lines.{unfinished, answered, state_after, answers, state_at_end, Holds, Grows, Keeps, Ended}
 use Rattle.framelog.proofs.Kept.{front_front}
 
 -- the last part of one list and the first of another are one part
@@ -177,10 +177,12 @@ module _ {A : Type 0} (M : Machine A) where
     pub log_answered : (bytes : List ℕ) → Keeps M a b o p bytes → vec_items p ≡ vec_items o ++ answered M start (split 10 bytes)
     log_answered bytes k = let g = k.grows start [] begun in g.output ∙ ap (λ l. vec_items o ++ l) (sym g.answer)
 
-    pub all_answered : (q : Vec ℕ Global) (bytes : List ℕ) (r : Result A AllocError) → Keeps M a b o p bytes → Finishes M b p q r → AnswersAll M start o q bytes r
-    all_answered q bytes (Ok end) k e =
+    pub all_answered : (c : Log A) (q : Vec ℕ Global) (bytes : List ℕ) → Keeps M a b o p bytes → Ended M b c p q → (vec_items q ≡ vec_items o ++ answers M start bytes) × (c.answerer ≡ state_at_end M start bytes)
+    all_answered c q bytes k e =
         let held = k.holds start [] begun in
         let g = grows_more o p q _ _ _ (k.grows start [] begun) (e.grows start bytes held) in
         (g.output ∙ ap (λ l. vec_items o ++ l) (sym g.answer), e.state start bytes held)
-    all_answered q bytes (Err _) k none =
-        (length bytes, p, log_answered bytes k ∙ ap (λ l. vec_items o ++ answered M start (split 10 l)) (sym (take_all (length bytes) bytes (omega arith))), none.0, none.1)
+
+    pub last_unanswered : (q bytes : List ℕ) → Keeps M a b o p bytes → q ≡ vec_items p → Full p 257 → (n : ℕ) × (full : Vec ℕ Global) × (vec_items full ≡ vec_items o ++ answered M start (split 10 (take n bytes))) × (q ≡ vec_items full) × Full full 257
+    last_unanswered q bytes k same full =
+        (length bytes, p, log_answered bytes k ∙ ap (λ l. vec_items o ++ answered M start (split 10 l)) (sym (take_all (length bytes) bytes (omega arith))), same, full)

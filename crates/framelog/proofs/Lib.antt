@@ -1,3 +1,4 @@
 mod Chunks
 mod Inputs
 mod Kept
+mod Passed

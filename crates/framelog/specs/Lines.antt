@@ -73,14 +73,19 @@ Ends M log log' out out' part r =
     (λ _. Keeps M log log' out out' (part ++ 10 ∷ []))
     (λ _. Keeps M log log' out out part × (vec_items out' ≡ vec_items out) × Full out 257)
 
--- the input is at its end: with what is appended now, the output has the answers to all of it, and `end` is the state after them
-pub record Ended {A : Type 0} (M : Machine A) (log : Log A) (end : A) (out out' : Vec ℕ Global) : Type 0 where
-  pub state : (start : A) (input : List ℕ) → Holds M start log input → end ≡ state_at_end M start input
+-- The input is at its end: with what is appended now, the output has the answers to all of it, and what answers is in the
+-- state after them. The line under way stays as it was.
+pub record Ended {A : Type 0} (M : Machine A) (log log' : Log A) (out out' : Vec ℕ Global) : Type 0 where
+  pub line : log'.line ≡ log.line
+  pub state : (start : A) (input : List ℕ) → Holds M start log input → log'.answerer ≡ state_at_end M start input
   pub grows : (start : A) (input : List ℕ) → Holds M start log input → Grows out out' (answered M start (split 10 input)) (answers M start input)
 
--- so it is; or nothing is appended, for want of memory where there was no room for an answer
-abbrev pub Finishes : {A : Type 0} → Machine A → (log : Log A) (out out' : Vec ℕ Global) → Result A AllocError → Type 0
-Finishes M log out out' r = MatchResult r (λ end. Ended M log end out out') (λ _. (vec_items out' ≡ vec_items out) × Full out 257)
+-- so it is; or nothing is appended and the log stays as it was, for want of memory where there was no room for an answer
+abbrev pub Finishes : {A : Type 0} → Machine A → (log log' : Log A) (out out' : Vec ℕ Global) → Result (Unit {0}) AllocError → Type 0
+Finishes M log log' out out' r =
+    MatchResult r
+    (λ _. Ended M log log' out out')
+    (λ _. (log' ≡ log) × (vec_items out' ≡ vec_items out) × Full out 257)
 
 -- a whole log was answered; or the lines that end in its first n bytes, for want of memory where there was no room for an answer
 abbrev pub AnswersAll : {A : Type 0} → Machine A → (start : A) (out out' : Vec ℕ Global) (log : List ℕ) → Result A AllocError → Type 0

@@ -1,5 +1,5 @@
 //! A log: chunks in, answers out.
-ghost use Rattle.std.specs.Prelude.{[]};
+ghost use Rattle.std.specs.Prelude.{◌≡◌, []};
 ghost use Rattle.lines.specs.Fields.{Whole};
 ghost use Rattle.framelog.specs.Lines.{Holds, Ends, Feeds, Finishes, AnswersAll};
 
@@ -50,16 +50,23 @@ impl<A: Answerer> Log<A> {
         Ok(())
     }
 
-    // Appends the answer to a last line that lacks its end, unless it is empty, and gives back what answered.
-    pub fn finish(self, out: &mut Vec<u8>) -> Result<A, AllocError>
-        ensures { Finishes A.machine self out.old out.new result }
+    // Appends the answer to a last line that lacks its end, unless it is empty. The line stays as it was; for want of memory
+    // nothing is appended, and all of the log stays so.
+    pub fn finish(&mut self, out: &mut Vec<u8>) -> Result<(), AllocError>
+        ensures { Finishes A.machine self.old self.new out.old out.new result }
     {
-        let mut answerer = self.answerer;
         let line = self.line.text();
         if !line.is_empty() {
-            answerer.answer(out, line)?;
+            self.answerer.answer(out, line)?;
         }
-        Ok(answerer)
+        Ok(())
+    }
+
+    // Gives back what answered.
+    pub fn into_answerer(self) -> A
+        ensures { result ≡ self.answerer }
+    {
+        self.answerer
     }
 }
 
@@ -73,5 +80,6 @@ pub fn answer_log<A: Answerer>(
 {
     let mut log = Log::new(answerer);
     log.feed(out, bytes)?;
-    log.finish(out)
+    log.finish(out)?;
+    Ok(log.into_answerer())
 }

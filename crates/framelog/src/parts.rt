@@ -1,6 +1,7 @@
 //! The parts into which the ends of lines cut a chunk.
 ghost use Rattle.std.specs.Prelude.{◌≡◌};
 ghost use Rattle.std.specs.Iterator.{item_count};
+ghost use Rattle.lines.specs.Fields.{PartEnd};
 ghost use Rattle.framelog.specs.Parts.{to_cut, NextPart};
 
 use lines::parts::part_end;
@@ -19,6 +20,21 @@ pub enum Part<'a> {
 #[derive(Clone, Copy)]
 pub struct Parts<'a> {
     rest: &'a [u8],
+}
+
+// How many bytes are searched at once.
+const BLOCK: usize = 64;
+
+// Where the line under way ends: at its byte 10, or where the bytes end. A log may be one long line, so whole blocks without an
+// end are passed over first.
+fn line_end(bytes: &[u8]) -> usize
+    ensures { PartEnd bytes.now 0 10 result }
+{
+    let mut from = 0;
+    while BLOCK < bytes.len() - from && !bytes[from..from + BLOCK].contains(&b'\n') {
+        from += BLOCK;
+    }
+    part_end(bytes, from, b'\n')
 }
 
 impl<'a> Parts<'a> {
@@ -41,7 +57,7 @@ impl<'a> Iterator for Parts<'a> {
         if self.rest.is_empty() {
             return None;
         }
-        let end = part_end(self.rest, 0, b'\n');
+        let end = line_end(self.rest);
         let (part, behind) = self.rest.split_at(end);
         match behind.split_first() {
             Some((_, rest)) => {

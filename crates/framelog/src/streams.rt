@@ -26,7 +26,7 @@ pub fn answer_input<A: Answerer>(rt: &HostRuntime, answerer: A) -> io::Result<A>
         output.write_all(&text)?;
         text.clear();
     }
-    let answerer = log.finish(&mut text)?;
+    log.finish(&mut text)?;
     output.write_all(&text)?;
-    Ok(answerer)
+    Ok(log.into_answerer())
 }

@@ -1,5 +1,5 @@
 -- Cutting and joining are inverse to each other. Assumes nothing.
-use Rattle.std.proofs.Common.{◌≡◌, ℕ, zero, suc, ◌+◌, ◌-◌, ◌<◌, ◌≤◌, eqb, leb, List, [], ◌∷◌, ◌++◌, length, filter, take, drop, sym, refl, ap, ◌∙◌, ⊎_elim, append-nil, le_of_suc-le-suc, not-suc-le-zero, arith}
+use Rattle.std.proofs.Common.{◌≡◌, ℕ, zero, suc, ◌+◌, ◌-◌, ◌<◌, ◌≤◌, eqb, leb, List, [], ◌∷◌, ◌++◌, length, get_or, take, drop, sym, refl, ap, ◌∙◌, ⊎_elim, append-nil, le_of_suc-le-suc, not-suc-le-zero, arith}
 use Rattle.std.proofs.lemmas.Bool.{eq-eqb, ne_eqb, eqb-false, le-leb, lt-leb, cases_eq, cases_lt, cond-true, cond-false, cond_both}
 use Rattle.std.proofs.lemmas.List.{drop_more, take-append-drop, drop-drop, length-take-le, length-drop, get_or-take, get_or-drop, drop_all}
 use Rattle.lines.specs.Fields.{Whole, AllWhole, CutAt, on_first, split, parted, join, PartEnd, placed, fields_from}
@@ -104,11 +104,10 @@ module _ (line : List ℕ) (at end : ℕ) (part : PartEnd line at 44 end) (begin
       here ∙ ap (placed at) cut ∙ ap (λ l. record { at = at; text = p } ∷ l) (sym (cond-false (leb (end + 1) (length line)) _ [] (lt-leb (end + 1) (length line) (omega arith)))))
       (cases_lt end (length line))
 
--- one part more than there are separators
-pub split_count : (s : ℕ) (bs : List ℕ) → length (split s bs) ≡ 1 + length (filter (λ b. eqb b s) bs)
-split_count s [] = refl
-split_count s (b ∷ bs) =
-    ⊎_elim
-    (λ e. rw (eq-eqb b s e) (omega (arith, split_count s bs)))
-    (λ e. rw (ne_eqb b s e) (first_length b (split s bs) (split_some s bs) ∙ split_count s bs))
-    (cases_eq b s)
+-- counting the parts: one place of the bytes, and the next
+module _ (s : ℕ) (bs : List ℕ) (i : ℕ) (h : i < length bs) where
+  pub count_separator : get_or bs i 0 ≡ s → length (split s (drop i bs)) ≡ length (split s (drop (i + 1) bs)) + 1
+  count_separator e = ap (λ l. length (split s l)) (drop_more bs i 0 h) ∙ ap length (cond-true (eqb (get_or bs i 0) s) _ _ (eq-eqb _ s e)) ∙ omega arith
+
+  pub count_other : (get_or bs i 0 ≡ s → ⊥) → length (split s (drop i bs)) ≡ length (split s (drop (i + 1) bs))
+  count_other e = ap (λ l. length (split s l)) (drop_more bs i 0 h) ∙ ap length (cond-false (eqb (get_or bs i 0) s) _ _ (ne_eqb _ s e)) ∙ first_length _ _ (split_some s (drop (i + 1) bs))

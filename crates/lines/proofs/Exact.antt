@@ -1,5 +1,5 @@
 -- Each frame has one line, and reading takes that line, and no other, to that frame. Assumes nothing.
-use Rattle.std.proofs.Common.{◌≡◌, ℕ, zero, suc, ◌+◌, ◌*◌, ◌%◌, ◌<◌, ◌≤◌, Bool, true, false, cond, eqb, List, [], ◌∷◌, map, length, drop, Some, None, Ok, Err, decimal, Option, Result, sym, refl, ap, ◌∙◌, subst, le_of_suc-le-suc, not-suc-le-zero, arith, length-append}
+use Rattle.std.proofs.Common.{◌≡◌, ℕ, zero, suc, ◌+◌, ◌*◌, ◌%◌, ◌<◌, ◌≤◌, Bool, true, false, cond, eqb, List, [], ◌∷◌, ◌++◌, map, length, drop, Some, None, Ok, Err, decimal, Option, Result, sym, refl, ap, ◌∙◌, subst, le_of_suc-le-suc, not-suc-le-zero, arith, length-append}
 use Rattle.std.specs.Option.{ok_or}
 use Rattle.std.proofs.lemmas.Fmt.{length-decimal-le}
 use Rattle.std.proofs.lemmas.List.{length-map}
@@ -11,6 +11,7 @@ use Rattle.frame.proofs.Apart.{err_ok}
 use Rattle.frame.proofs.Decides.{makes_frame, frame_checks}
 use Rattle.frame.specs.declared.frames.Frame.{Frame}
 use Rattle.frame.specs.Parts.{sum_of, terms_of}
+use Rattle.lines.specs.Answers.{answer_of, Echoes}
 use Rattle.lines.specs.Writing.{OneLine}
 use Rattle.lines.specs.declared.kinds.LineKind.{LineKind}
 use Rattle.lines.specs.declared.kinds.LineKind.TheVariants as kinds
@@ -176,3 +177,7 @@ one_line s ts f = record { short = line_short s ts f; back = line_each s ts f; o
 -- the sum and the terms of a frame
 pub is_frame : (f : Frame) → IsFrame (sum_of f) (terms_of f)
 is_frame f = record { word = f.word; terms = f.frame }
+
+-- a frame's line comes out as it went in
+pub echoes : (line : List ℕ) → Echoes line
+echoes line s ts f e = ap (λ r. answer_of r ++ 10 ∷ []) (ap read e ∙ line_each s ts f) ∙ ap (λ l. l ++ 10 ∷ []) (sym e)

@@ -1,4 +1,5 @@
 pub mod Answers
+pub mod Appending
 pub mod Entries
 pub mod Fields
 pub mod Frames

@@ -1,16 +1,19 @@
 //! The answers to lines.
-ghost use Rattle.std.specs.Prelude.{◌≡◌, ◌<◌, ◌≤◌, ◌∷◌, [], ◌++◌, length};
+ghost use Rattle.std.specs.Prelude.{◌≡◌, ◌≤◌, ◌∷◌, [], ◌++◌, length};
 ghost use Rattle.frame.specs.Refusals.{refusal_case, numbered};
-ghost use Rattle.lines.specs.Answers.{layer_name, kind_refused, refused_line, accepted_line, answer_line, answer_to, Echoes};
+ghost use Rattle.lines.specs.Answers.{layer_name, kind_refused, refused_line, accepted_line};
+ghost use Rattle.lines.specs.Answers.{answer_line, answer_of, answer_to, Echoes};
+ghost use Rattle.lines.specs.Appending.{Room, Puts};
+ghost use Rattle.lines.specs.Reading.{read};
 ghost use Rattle.lines.specs.Writing.{Appends};
 
 use super::kinds::{LineKind, shown_letter};
-use super::reading::read_frame;
-use super::writing::{Line, push_field, put_frame};
+use super::reading::{MOST_BYTES, read_frame};
+use super::writing::{put, put_field, put_frame};
 use frame::refusals::{Layer, Refusal};
 use std::alloc::AllocError;
 
-// Not by `Display`, which misses the bar of speed (see `Line`).
+// Not by `Display`, which misses the bar of speed (see `put_frame`).
 fn layer_name(layer: Layer) -> &'static str
     ensures value { result.now ≡ layer_name layer }
     ensures short { length result.now ≤ 5 }
@@ -22,37 +25,36 @@ fn layer_name(layer: Layer) -> &'static str
     }
 }
 
-// Makes a line the answer to a refused one, without the byte that ends it. Not by `Display` either.
-fn put_refusal(line: &mut Line, kind: Option<LineKind>, refusal: Refusal)
-    ensures value { line.new.bytes ≡ refused_line kind (refusal_case refusal) }
-    ensures short { length line.new.bytes ≤ 256 }
+// Appends the answer to a refused line, without the byte that ends it. Not by `Display` either.
+fn put_refusal(out: &mut Vec<u8>, kind: Option<LineKind>, refusal: Refusal)
+    requires { Room out.old 256 }
+    ensures puts { Puts out.old out.new (refused_line kind (refusal_case refusal)) }
+    ensures short { length (refused_line kind (refusal_case refusal)) ≤ 256 }
 {
-    line.clear();
-    line.push(shown_letter(kind));
-    line.push_str(",refused,");
-    line.push_str(layer_name(refusal.layer()));
-    push_field(line, refusal.number());
-    push_field(line, refusal.place());
+    out.push_reserved(shown_letter(kind) as u8);
+    put(out, b",refused,");
+    put(out, layer_name(refusal.layer()).as_bytes());
+    put_field(out, refusal.number());
+    put_field(out, refusal.place());
 }
 
-// Makes a line the answer to one that is accepted with a number, likewise.
-fn put_accepted(line: &mut Line, kind: Option<LineKind>, number: usize)
-    ensures value { line.new.bytes ≡ accepted_line kind number }
-    ensures short { length line.new.bytes ≤ 256 }
+// Appends the answer to a line that is accepted with a number, likewise.
+fn put_accepted(out: &mut Vec<u8>, kind: Option<LineKind>, number: usize)
+    requires { Room out.old 256 }
+    ensures puts { Puts out.old out.new (accepted_line kind number) }
+    ensures short { length (accepted_line kind number) ≤ 256 }
 {
-    line.clear();
-    line.push(shown_letter(kind));
-    line.push_str(",ok");
-    push_field(line, number);
+    out.push_reserved(shown_letter(kind) as u8);
+    put(out, b",ok");
+    put_field(out, number);
 }
 
-// Appends a line and the byte that ends it; for want of memory it appends nothing.
-fn append_line(out: &mut Vec<u8>, line: &mut Line) -> Result<(), AllocError>
-    requires { length line.old.bytes ≤ 256 }
-    ensures { Appends out.old out.new (line.old.bytes ++ 10 ∷ []) 257 result }
+// Appends the byte that ends a line.
+fn end_line(out: &mut Vec<u8>)
+    requires { Room out.old 1 }
+    ensures { Puts out.old out.new (10 ∷ []) }
 {
-    line.push('\n');
-    out.extend_from_slice(line.as_str().as_bytes())
+    out.push_reserved(b'\n');
 }
 
 // Appends the answer to a line of this kind, which is accepted with a number or refused. For want of memory it appends nothing.
@@ -63,12 +65,13 @@ pub fn write_answer(
 ) -> Result<(), AllocError>
     ensures { Appends out.old out.new (answer_line kind (numbered answer) ++ 10 ∷ []) 257 result }
 {
-    let mut text = Line::new();
+    out.reserve(MOST_BYTES + 1)?;
     match answer {
-        Ok(number) => put_accepted(&mut text, kind, number),
-        Err(refusal) => put_refusal(&mut text, kind, refusal),
+        Ok(number) => put_accepted(out, kind, number),
+        Err(refusal) => put_refusal(out, kind, refusal),
     }
-    append_line(out, &mut text)
+    end_line(out);
+    Ok(())
 }
 
 // The kind of a line that a log check refuses: a frame's, or unknown.
@@ -81,15 +84,25 @@ fn kind_refused(refusal: Refusal) -> Option<LineKind>
     }
 }
 
+// Appends a log check's answer to a line, without the byte that ends it.
+fn put_answer(out: &mut Vec<u8>, line: &[u8])
+    requires { Room out.old 256 }
+    ensures puts { Puts out.old out.new (answer_of (read line.now)) }
+    ensures short { length (answer_of (read line.now)) ≤ 256 }
+{
+    match read_frame(line) {
+        Ok(frame) => put_frame(out, &frame.frame()),
+        Err(refusal) => put_refusal(out, kind_refused(refusal), refusal),
+    }
+}
+
 // Appends a log check's answer to a line; for want of memory it appends nothing.
 pub fn answer(out: &mut Vec<u8>, line: &[u8]) -> Result<(), AllocError>
     ensures value { Appends out.old out.new (answer_to line.now) 257 result }
     ensures echo { Echoes line.now }
 {
-    let mut text = Line::new();
-    match read_frame(line) {
-        Ok(frame) => put_frame(&mut text, &frame.frame()),
-        Err(refusal) => put_refusal(&mut text, kind_refused(refusal), refusal),
-    }
-    append_line(out, &mut text)
+    out.reserve(MOST_BYTES + 1)?;
+    put_answer(out, line);
+    end_line(out);
+    Ok(())
 }

@@ -21,7 +21,14 @@ pub fn count_fields(line: &[u8]) -> usize
     ensures value { result ≡ length (fields_of line.now) }
     ensures cut { CutAt 44 line.now (split 44 line.now) }
 {
-    1 + line.iter().filter(|byte| **byte == b',').count()
+    // In a `for`: by `filter` and `count` it takes a third longer.
+    let mut count = 1;
+    for byte in line {
+        if *byte == b',' {
+            count += 1;
+        }
+    }
+    count
 }
 
 impl<'a> Fields<'a> {

@@ -1,12 +1,23 @@
-use Rattle.std.proofs.Common.{◌+◌, eqb, sym, ap, ◌∙◌, rules, tests}
-use Rattle.std.proofs.lemmas.Iterator.{YieldsList-from_slice}
-use Rattle.std.proofs.lemmas.Iterator.Consumers.{YieldsList-from_filter, count_from_yields_List}
+use Rattle.std.proofs.Common.{length, arith}
+use Rattle.std.proofs.lemmas.List.{at_drop_all}
 use Rattle.lines.specs.Fields.{split}
-use Rattle.lines.proofs.Cuts.{cut_at, length-placed, split_count}
+use Rattle.lines.proofs.Cuts.{cut_at, count_separator, count_other, length-placed}
 use Rattle.lines.proofs.fields.count_fields.Goals as goal
+use Rattle.lines.proofs.fields.count_fields.Goals.{then-byte-eq44, else-byte-eq44}
+
+pub loop-byte-preserved : goal.loop-byte-preserved
+loop-byte-preserved c =
+    elim c.if-byte-eq44.branch [
+      | then-byte-eq44 w ↦
+          let one = count_separator 44 c.args.line.now c.loop-byte.byte-index c.loop-byte-test.true w.if-byte-eq44.true in
+          (omega (arith, w.count-is), omega (arith, w.count-is))
+      | else-byte-eq44 w ↦
+          let none = count_other 44 c.args.line.now c.loop-byte.byte-index c.loop-byte-test.true w.if-byte-eq44.false in
+          (omega (arith, w.count-is), omega (arith, w.count-is))
+    ]
 
 pub returns : goal.returns
 returns c =
     let line = c.args.line.now in
-    let commas = count_from_yields_List c.filter.result _ c.count.ensures.ran (YieldsList-from_filter _ (λ b. eqb b 44) (YieldsList-from_slice line cc) c.filter.ensures.closure (λ x b q k. search (rules, tests))) in
-    record { value = ap (λ n. 1 + n) commas ∙ sym (split_count 44 line) ∙ sym (length-placed 0 (split 44 line)); cut = cut_at 44 line }
+    let end = at_drop_all (λ l. length (split 44 l)) line c.loop-byte.byte-index c.loop-byte-test.false in
+    record { value = omega (arith, length-placed 0 (split 44 line)); cut = cut_at 44 line }
