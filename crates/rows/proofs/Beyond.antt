@@ -1,6 +1,7 @@
 -- What take's answer tells of a row, and in which order a frame is refused. Assumes nothing.
-use Rattle.std.specs.Prelude.{◌≡◌, ℕ, ◌<◌, ◌≤◌, Bool, true, false, List, length, Some, None, Ok, Option, Result, nat_le, refl}
+use Rattle.std.specs.Prelude.{◌≡◌, ℕ, ◌+◌, ◌<◌, ◌≤◌, Bool, true, false, List, length, drop, Some, None, Ok, Option, Result, nat_le, refl}
 use Rattle.std.proofs.Common.{sym, subst, arith}
+use Rattle.std.proofs.lemmas.List.{drop_more}
 use Rattle.std.proofs.lemmas.Bool.{leb-true, leb-false, le-leb, lt-leb}
 use Rattle.frame.specs.declared.terms.Term.{Term}
 use Rattle.frame.specs.Frames.{no_term, minute_at}
@@ -12,9 +13,20 @@ use Rattle.frame.proofs.Positions.{none_passes, none_found}
 use Rattle.rows.specs.Systems.{Row, System}
 use Rattle.rows.specs.Ledgers.{first_beyond, admit_answer, take_answer, BeyondWidth, admit_order}
 
--- where no term is beyond, all minutes are below
+-- one step of the search for a term beyond
+module _ (m at : ℕ) (ts : List Term) (i : ℕ) (h : i < length ts) where
+  pub here_beyond : m ≤ minute_at ts i → first_beyond m at (drop i ts) ≡ Some at
+  here_beyond g = rw (drop_more ts i no_term h, le-leb m (minute_at ts i) g)
+
+  pub later_beyond : minute_at ts i < m → first_beyond m at (drop i ts) ≡ first_beyond m (at + 1) (drop (i + 1) ts)
+  later_beyond l = rw (drop_more ts i no_term h, lt-leb m (minute_at ts i) l)
+
+-- no term is beyond just where all minutes are below
 pub none_beyond : (m at : ℕ) (ts : List Term) → first_beyond m at ts ≡ None → (k : ℕ) → k < length ts → minute_at ts k < m
 none_beyond m at ts e k h = leb-false m (minute_at ts k) (none_passes (λ t. nat_le m t.minute) no_term at ts e k h)
+
+pub all_below_lem : (m at : ℕ) (ts : List Term) → ((k : ℕ) → k < length ts → minute_at ts k < m) → first_beyond m at ts ≡ None
+all_below_lem m at ts below = none_found (λ t. nat_le m t.minute) no_term at ts (λ k h. lt-leb m (minute_at ts k) (below k h))
 
 admitted_ok : (beyond : Option ℕ) (full : Bool) (n row : ℕ) → Ok row ≡ refuse 2 beyond (refuse 5 (when full) (Ok n)) → (beyond ≡ None) × (full ≡ false) × (row ≡ n)
 admitted_ok (Some term) full n row e = absurd (err_ok _ row (sym e))
@@ -38,7 +50,7 @@ module _ (S : System) (limit : ℕ) (r : Row) (row : ℕ) (taken : Ok row ≡ ta
 -- a row whose minutes are below the width is taken where there is room
 pub is_taken : (S : System) (limit : ℕ) (r : Row) → ((k : ℕ) → k < length r.terms → minute_at r.terms k < S.width) → length S.rows < limit → take_answer S limit r ≡ Ok (length S.rows)
 is_taken S limit r below room =
-    rw (none_found (λ t. nat_le S.width t.minute) no_term 0 r.terms (λ k l. lt-leb S.width (minute_at r.terms k) (below k l)), lt-leb limit (length S.rows) room) refl
+    rw (all_below_lem S.width 0 r.terms below, lt-leb limit (length S.rows) room) refl
 
 -- a frame is refused in order
 module _ (m n limit : ℕ) (ts : List Term) where

@@ -1,8 +1,8 @@
 -- The entry of the matrix and the value of a row, from the terms handed out. Assumes nothing.
-use Rattle.std.proofs.Common.{Option, inl, inr, ◌==◌, ◌≡◌, ℕ, zero, suc, ◌%◌, ◌<◌, List, [], ◌∷◌, length, get_or, Some, sym, refl, ap, ◌∙◌, arith, mod-eq_of_lt, eq-eqb}
-use Rattle.std.proofs.lemmas.Bool.{lt-ltb, ne_eqb, cases_eq}
-use Rattle.std.specs.List.{slice_get, find, fold}
-use Rattle.std.specs.Option.{MatchOption, option_map}
+use Rattle.std.proofs.Common.{eqb, ◌≡◌, ℕ, zero, suc, ◌%◌, ◌<◌, List, [], ◌∷◌, length, get_or, Some, sym, refl, ap, ◌∙◌, arith, mod-eq_of_lt, eq-eqb}
+use Rattle.std.proofs.lemmas.Bool.{lt-ltb, ne_eqb, cond-true, cond-false}
+use Rattle.std.specs.List.{slice_get, fold}
+use Rattle.std.specs.Option.{option_map}
 use Rattle.field.specs.Operations.{Operations}
 use Rattle.field.specs.Laws.{Lawful}
 use Rattle.field.proofs.FieldLemmas as field
@@ -22,14 +22,12 @@ found_sum [] i sum e = absurd (none-some sum (sym e))
 found_sum (r ∷ rs) zero sum e = (refl, cc)
 found_sum (r ∷ rs) (suc i) sum e = found_sum rs i sum e
 
--- the weight of the first term with the minute c
-pub weight_found : (c w : ℕ) (ts : List Term) (r : Option Term) → r ≡ find (λ t. t.minute == c) ts → MatchOption r (w ≡ 0) (λ t. w ≡ t.weight) → w ≡ weight_for ts c
-weight_found c w [] r e m = rw e at m
-weight_found c w (t ∷ ts) r e m =
-    elim (cases_eq t.minute c) [
-      | inl same ↦ rw (eq-eqb t.minute c same) (rw (e, eq-eqb t.minute c same) at m)
-      | inr other ↦ rw (ne_eqb t.minute c other) (weight_found c w ts r (rw (ne_eqb t.minute c other) at e) m)
-    ]
+-- the weight at a minute, one term after the other
+pub weight_here : (c : ℕ) (t : Term) (ts all : List Term) → all ≡ t ∷ ts → t.minute ≡ c → weight_for all c ≡ t.weight
+weight_here c t ts all e same = ap (λ l. weight_for l c) e ∙ cond-true (eqb t.minute c) _ _ (eq-eqb t.minute c same)
+
+pub weight_behind : (c : ℕ) (t : Term) (ts all : List Term) → all ≡ t ∷ ts → (t.minute ≡ c → ⊥) → weight_for all c ≡ weight_for ts c
+weight_behind c t ts all e other = ap (λ l. weight_for l c) e ∙ cond-false (eqb t.minute c) _ _ (ne_eqb t.minute c other)
 
 pub entry_there : (K : Operations) (S : System) (i c : ℕ) → i < length S.rows → c < S.width → entry_of K S i c ≡ Some (weight_for (row_at S i).terms c % K.q)
 entry_there K S i c there inside = rw (lt-ltb i (length S.rows) there, lt-ltb c S.width inside)

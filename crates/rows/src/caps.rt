@@ -93,8 +93,13 @@ impl<L: Ledger> Ledger for Cap<L> {
     }
 
     fn take(&mut self, frame: &Frame<'_>) -> Result<usize, Refusal> {
-        admit(frame, self.width(), self.row_count(), self.own.number())?;
-        self.below.take(frame)
+        // The ledger below looks at the terms, so that they are looked at once, however many caps
+        // there are.
+        if self.row_count() < self.own.number() {
+            return self.below.take(frame);
+        }
+        // The cap is full: `admit` refuses, a minute beyond the width first.
+        admit(frame, self.width(), self.row_count(), self.own.number())
     }
 
     fn strike(&mut self, row: usize) -> Result<(), Refusal> {

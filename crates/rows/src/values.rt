@@ -12,13 +12,17 @@ use field::fields::{Field, code_of};
 pub fn entry<F: Field, R: Rows>(rows: &R, row: usize, minute: usize) -> Option<u16>
     ensures { result ≡ entry_of F.ops (R.system rows.now) row minute }
 {
-    let mut terms = terms(rows, row)?;
+    let terms = terms(rows, row)?;
     if minute >= rows.width() {
         return None;
     }
-    let term = terms.find(|term| usize::from(term.minute) == minute);
-    let weight = term.map_or(0, |term| term.weight);
-    Some(code_of::<F>(weight))
+    // By `find` and `map_or` it takes a third longer.
+    for term in terms {
+        if usize::from(term.minute) == minute {
+            return Some(code_of::<F>(term.weight));
+        }
+    }
+    Some(0)
 }
 
 /// A choice of minutes: a number for each, which is read as a code.

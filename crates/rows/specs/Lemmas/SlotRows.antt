@@ -3,6 +3,9 @@ use Rattle.std.specs.Prelude.{◌≡◌, ℕ, ◌<◌, ◌≤◌, List, map, len
 use Rattle.std.specs.Prelude.{slice_index_or}
 use Rattle.std.proofs.Common.{sym, ap, subst, ◌∙◌, arith, lit≤, not-suc-le-zero}
 use Rattle.std.proofs.lemmas.List.{length-map, length-take-le, get_or-map, get_or-take}
+use Rattle.std.proofs.lemmas.List.{get_or_default}
+use Rattle.std.specs.List.{slice_get}
+use Rattle.std.proofs.lemmas.Option.{slice_get-get_or, slice_get_past}
 use Rattle.frame.specs.declared.buffers.FrameBuf.{FrameBuf}
 use Rattle.frame.specs.Frames.{minute_at}
 use Rattle.rows.specs.declared.sizes.TheConstants.{MOST_ROWS}
@@ -25,6 +28,20 @@ module _ (n : ℕ) (slots : List (Option FrameBuf)) (fits : n ≤ length slots) 
       let long = length-take-le n slots fits in
       get_or-map slot_row (take n slots) i None empty_row (omega arith)
       ∙ ap slot_row (get_or-take n slots i None h)
+
+  -- whatever is read past the last slot
+  pub row_found :
+      (i : ℕ) (d : Option FrameBuf) → i < n →
+      slice_get (map slot_row (take n slots)) i ≡ Some (slot_row (slice_index_or slots i d))
+  row_found i d h =
+      let long = row_count in
+      slice_get-get_or (map slot_row (take n slots)) i empty_row (omega arith)
+      ∙ ap Some (slot_at i h ∙ ap slot_row (get_or_default slots i None d (omega arith)))
+
+  pub row_missing : (i : ℕ) → n ≤ i → slice_get (map slot_row (take n slots)) i ≡ None
+  row_missing i h =
+      let long = row_count in
+      slice_get_past (map slot_row (take n slots)) i (omega arith)
 
 -- a table's slots are there
 pub slots_fit : (t : Table) → t.count ≤ length t.slots

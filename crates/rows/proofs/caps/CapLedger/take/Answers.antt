@@ -4,8 +4,8 @@ use Rattle.rows.specs.Caps.{cap_system, cap_limit}
 use Rattle.rows.proofs.Beyond.{answer_in_order}
 use Rattle.rows.proofs.caps.CapLedger.take.Goals as goal
 
-pub returns-in_err-admit-clause-order : goal.returns-in_err-admit-clause-order
-returns-in_err-admit-clause-order g c =
+pub returns-then-row_count-number-clause-order : goal.returns-then-row_count-number-clause-order
+returns-then-row_count-number-clause-order g c =
     let S = cap_system g.L.Rows.system c.args.self.now in
     answer_in_order S.width (length S.rows) (cap_limit g.L.Ledger.most c.args.self.now) (terms_of c.args.frame.now) _ (search rules)
 
