@@ -6,6 +6,7 @@ use field::fields::Field;
 use field::octets::Octets;
 use field::primes::Prime;
 use std::alloc::AllocError;
+use std::fmt;
 
 // Words at the ends of ranges: of bits, of octets and of the integers modulo 65521.
 const EDGES: [u16; 19] = [
@@ -80,14 +81,19 @@ fn put_inverses(text: &mut String) -> Result<(), AllocError> {
     text.push('\n')
 }
 
+fn put_table(text: &mut String) -> Result<(), AllocError> {
+    put_edges(text)?;
+    put_sequence(text, 4096)?;
+    for a in 0..Octets::Q {
+        put_products(text, a)?;
+    }
+    put_inverses(text)
+}
+
 fn main(rt: HostRuntime) -> anyhow::Result<()> {
     let mut text = String::new(rt.alloc());
-    put_edges(&mut text)?;
-    put_sequence(&mut text, 4096)?;
-    for a in 0..Octets::Q {
-        put_products(&mut text, a)?;
-    }
-    put_inverses(&mut text)?;
+    // Want of memory is told as a failure to format, in the words of `fmt::Error`.
+    put_table(&mut text).map_err(fmt::Error::from)?;
     rt.stdout().write_all(text.as_bytes())?;
     Ok(())
 }
